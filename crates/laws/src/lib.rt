@@ -1,0 +1,1 @@
+// The laws have no code: what follows from the rules stands in proofs/, one file a theorem.
