@@ -1,0 +1,2 @@
+-- The laws of bits that rows of bits use everywhere.
+pub mod Bits

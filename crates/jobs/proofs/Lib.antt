@@ -1,0 +1,2 @@
+-- What a shift says of stray hoses.
+pub mod Stray

@@ -1,0 +1,3 @@
+-- What the check of an order and the count go by.
+pub mod Entries
+pub mod Paid

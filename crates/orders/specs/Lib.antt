@@ -1,0 +1,2 @@
+-- What the contracts inside this crate cite beside the rules.
+pub mod Entries
