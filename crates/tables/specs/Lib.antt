@@ -1,0 +1,2 @@
+-- What the tables of a search hold.
+pub mod Tables
