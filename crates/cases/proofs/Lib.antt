@@ -1,0 +1,2 @@
+-- Laws of a case's steps.
+pub mod Steps

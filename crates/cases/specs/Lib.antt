@@ -1,0 +1,2 @@
+-- What the functions over cases ask and answer.
+pub mod Case

@@ -1,0 +1,2 @@
+-- What the search's own functions answer.
+pub mod Walked
