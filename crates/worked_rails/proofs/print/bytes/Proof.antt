@@ -1,0 +1,26 @@
+-- `bytes` reads below the row's length.
+use Prim.Native.Nat.{_≤_, _-_}
+use lib.ListN.{length}
+use borrow.Author.Needs.{needs}
+use Rattle.worked_rails.proofs.print.bytes.Statement.{statement}
+use Rattle.worked_rails.proofs.print.bytes.Tie as tie
+
+abbrev Inv-loop : tie.InvT-loop
+Inv-loop room i₀ i-end i = i-end ≤ length room
+
+abbrev μ-loop : tie.MeasureT-loop
+μ-loop room i₀ i-end i = i-end - i
+
+pub bytes-spec : {M : Type 1} → statement M
+bytes-spec =
+    tie.close
+    (tie.spec
+    Inv-loop
+    μ-loop
+    (λ c. search needs)
+    (λ c. search needs)
+    (λ c κs. search needs)
+    (λ c. search needs)
+    (λ c. search needs)
+    (λ c. search needs)
+    (λ c. search needs))
