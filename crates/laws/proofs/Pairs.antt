@@ -1,6 +1,6 @@
 -- Crossings as a sum over pairs: an order's crossings are what its relation 'stands left of' costs. For an order that extends R they are what R has
 -- spent, and what the pairs that R leaves unplaced cost as they stand; where each of these costs the same either way, that is `equalCosts`.
-use mathlib.Core.Bool.{Bool, true, false, not, ◌&&◌, ◌||◌, and-true, and_false}
+use mathlib.Core.Bool.{Bool, true, false, not, ◌&&◌, ◌||◌, and-true, and-false}
 use mathlib.Core.List.{List, [], ◌∷◌}
 use mathlib.Core.Logic.{◌⊎◌, inl, inr}
 use mathlib.Core.Path.{◌≡◌, refl, sym, ◌∙◌, ap, subst}
@@ -139,4 +139,4 @@ module _ (n : ℕ) (c : Cost) (l : List ℕ) (order : IsOrder n l) where
             rw (p, q) (simp and-true (as_numbered u v hu hv (equal u v hu hv p) (ℕ_discrete u v)))
         go u v hu hv (inr p) =
             let q : unplaced R v u ≡ false = not_passed (unplaced R v u) (λ e. never_both (unplaced_back R v u e) p) in
-            rw (p, q) (simp and_false)
+            rw (p, q) (simp and-false)

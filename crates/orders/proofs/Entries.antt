@@ -15,9 +15,9 @@ use Rattle.rules.proofs.Sums.{every_at, every-all, least-before, least_passes}
 use Rattle.rules.proofs.Orders.{times_same, times-other, times-place, times_twice, sum_times_all, sum_full, entry_on_rail, test_order}
 use Rattle.orders.specs.Entries.{off_rail, repeats, bad, first_bad}
 
-or_false : (a b : Bool) → (a || b) ≡ false → (a ≡ false) × (b ≡ false)
-or_false true b e = absurd (false≢true (sym e))
-or_false false b e = (refl, e)
+or-false : (a b : Bool) → (a || b) ≡ false → (a ≡ false) × (b ≡ false)
+or-false true b e = absurd (false≢true (sym e))
+or-false false b e = (refl, e)
 
 -- an entry of a row that is to be an order of n outlets
 module _ (n : ℕ) (row : List ℕ) (place : ℕ) where
@@ -59,11 +59,11 @@ module _ (n : ℕ) (row : List ℕ) (place : ℕ) where
   -- and back
   good_on : bad n row place ≡ false → get_or row place 0 < n
   unfolding bad off_rail
-  good_on e = leb-false n (get_or row place 0) (or_false (off_rail n row place) (repeats row place) e).0
+  good_on e = leb-false n (get_or row place 0) (or-false (off_rail n row place) (repeats row place) e).0
 
   good_first : bad n row place ≡ false → (earlier : ℕ) → earlier < place → get_or row earlier 0 ≡ get_or row place 0 → ⊥
   unfolding bad repeats
-  good_first e = apart (not-false (every another place) (or_false (off_rail n row place) (repeats row place) e).1)
+  good_first e = apart (not-false (every another place) (or-false (off_rail n row place) (repeats row place) e).1)
 
 -- a row in which no entry repeats an earlier one has each outlet once at most
 entry_once_at_most : (l : List ℕ) → ((q p : ℕ) → q < p → p < length l → get_or l q 0 ≡ get_or l p 0 → ⊥) → (o : ℕ) → times o l ≤ 1

@@ -1,6 +1,6 @@
 -- The base by the two sets of a pair: what the tests of equal sets, of an empty set and of the two costs say of the root's relation.
 use mathlib.Core.Path.{◌≡◌, refl, sym, ◌∙◌, ap, ap₂}
-use mathlib.Core.Bool.{Bool, true, false, not, ◌&&◌, ◌||◌, and-true, and_false, and-not_self, or_false}
+use mathlib.Core.Bool.{Bool, true, false, not, ◌&&◌, ◌||◌, and-true, and-false, and-not_self, or-false}
 use mathlib.Core.List.{List}
 use mathlib.Core.Logic.{◌⊎◌, inl, inr}
 use Prim.Native.Nat.{ℕ, ◌+◌, ◌*◌, ◌^◌, ◌<◌}
@@ -72,12 +72,12 @@ sets_same : (x : ℕ) (smaller : Bool) → by_sets x x smaller ≡ smaller
 unfolding by_sets bare_last free_one_way alike
 sets_same x smaller =
     let h : Bool = has_hoses (profile x) in
-    rw (and-not_self h, neither (cross (profile x) (profile x)), and_false (h && h), same x, and-true smaller)
+    rw (and-not_self h, neither (cross (profile x) (profile x)), and-false (h && h), same x, and-true smaller)
 
 -- an outlet with hoses left of one without,
 sets_bare : (y : ℕ) (smaller : Bool) → y < 2 ^ 64 → (y ≡ 0 → ⊥) → by_sets 0 y smaller ≡ false
 unfolding by_sets bare_last free_one_way alike
-sets_bare y smaller h n = rw (none, some y h n, different 0 y (omega arith) h (λ e. n (sym e)), and_false smaller)
+sets_bare y smaller h n = rw (none, some y h n, different 0 y (omega arith) h (λ e. n (sym e)), and-false smaller)
 
 sets_last : (x : ℕ) (smaller : Bool) → x < 2 ^ 64 → (x ≡ 0 → ⊥) → by_sets x 0 smaller ≡ true
 unfolding by_sets bare_last free_one_way alike
@@ -89,7 +89,7 @@ sets_both : (x y : ℕ) (smaller : Bool) → x < 2 ^ 64 → y < 2 ^ 64 → (x �
 unfolding by_sets bare_last free_one_way alike
 sets_both x y smaller hx hy nx ny n =
     let free : Bool = eqb (cross (profile x) (profile y)) 0 && ltb 0 (cross (profile y) (profile x)) in
-    rw (some x hx nx, some y hy ny, different x y hx hy n, and_false smaller, or_false free)
+    rw (some x hx nx, some y hy ny, different x y hx hy n, and-false smaller, or-false free)
 
 -- so of two outlets of a rail
 module _ (rail : List ℕ) (a b : ℕ) (ha : get_or rail a 0 < 2 ^ 64) (hb : get_or rail b 0 < 2 ^ 64) where

@@ -1,5 +1,5 @@
 -- What a placement leaves unplaced: an outlet that it does not touch is unplaced with whoever it was unplaced with before.
-use mathlib.Core.Bool.{Bool, true, false, not, ◌&&◌, ◌||◌, and_false}
+use mathlib.Core.Bool.{Bool, true, false, not, ◌&&◌, ◌||◌, and-false}
 use mathlib.Core.List.{List}
 use mathlib.Core.Path.{◌≡◌, sym, ◌∙◌, ap, ap₂}
 use Prim.Native.Nat.{ℕ, ◌+◌, ◌-◌, ◌*◌, ◌%◌, ◌^◌, ◌≤◌, ◌<◌}
@@ -35,7 +35,7 @@ pub stays : (R : Relation) (a b : ℕ) → Strict R → (u v : ℕ) → unplaced
     → unplaced (place R a b) u v ≡ true
 stays R a b strict u v free left right =
     unplaced_if (place R a b) u v
-    (closed R a b strict u v ∙ ap₂ (λ (s t : Bool). s || (new_left R a b u && t)) (unplaced_not R u v free) right ∙ and_false (new_left R a b u))
+    (closed R a b strict u v ∙ ap₂ (λ (s t : Bool). s || (new_left R a b u && t)) (unplaced_not R u v free) right ∙ and-false (new_left R a b u))
     (closed R a b strict v u ∙ ap₂ (λ (s t : Bool). s || (t && new_right R a b u)) (unplaced_not R v u (unplaced_back R u v free)) left)
 
 -- rows[2 * u] | rows[2 * u + 1] | (left | right) | 1 << u

@@ -1,5 +1,5 @@
 -- The order made from left to right, over a set of bits of those that stand: who is free to stand next, and what is still to be made.
-use mathlib.Core.Bool.{Bool, true, false, not, ◌&&◌, ◌||◌, and_comm, and_false}
+use mathlib.Core.Bool.{Bool, true, false, not, ◌&&◌, ◌||◌, and_comm, and-false}
 use mathlib.Core.List.{List, [], ◌∷◌, ◌++◌, append_assoc, append-nil}
 use mathlib.Core.Path.{◌≡◌, refl, sym, ◌∙◌, ap, ap₂, subst⁻¹, fun_ext}
 use Prim.Native.Nat.{ℕ, suc, ◌+◌, ◌-◌, ◌*◌, ◌/◌, ◌^◌, ◌≤◌, ◌<◌}
@@ -80,7 +80,7 @@ module _ {n : ℕ} {rows : List ℕ} (given : (n ≤ 32) × Rows rows × Within 
   pub has_to_wait : (o : ℕ) → (bit_and (get_or rows (2 * o + 1) 0) ((2 ^ 32 - 1) - standing) ≡ 0 → ⊥) → free n rows standing o ≡ false
   unfolding ahead
   has_to_wait o some =
-      ap (λ (t : Bool). not (has standing o) && t) (some-ahead o some) ∙ and_false (not (has standing o))
+      ap (λ (t : Bool). not (has standing o) && t) (some-ahead o some) ∙ and-false (not (has standing o))
 
   -- so the first free one is the next
   pub next_here : (o : ℕ) → o < n → free n rows standing o ≡ true → ((i : ℕ) → i < o → free n rows standing i ≡ false)

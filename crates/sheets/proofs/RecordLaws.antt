@@ -14,9 +14,9 @@ use Rattle.rules.proofs.Checks.{first-none}
 use Rattle.sheets.specs.Records.{answer_at, record_at}
 use Rattle.sheets.specs.declared.records.Record as Declared
 
-and_false : (b : Bool) → (b && false) ≡ false
-and_false true = refl
-and_false false = refl
+and-false : (b : Bool) → (b && false) ≡ false
+and-false true = refl
+and-false false = refl
 
 -- kind 1 at the start, kind 2 after it; the head's length is 3, an outlet record's at most 64
 pub head_due : (p : ℕ) → p ≡ 0 → kind_due p ≡ 1
@@ -139,7 +139,7 @@ module _ (s : List ℕ) (p : ℕ) where
 
   pub not_the_end : (p ≡ length s → ⊥) → at_end s p ≡ false
   unfolding at_end
-  not_the_end n = rw (ne_eqb p (length s) n, at_end) (and_false (ltb 0 (length s)))
+  not_the_end n = rw (ne_eqb p (length s) n, at_end) (and-false (ltb 0 (length s)))
 
   pub next_is_the_end : (r : Declared.Record) → at_end s p ≡ true → r ≡ record { number = 0; kind = 0; start = 0; length = 0; next = p } → NextRecord s p (told r)
   next_is_the_end r e h =

@@ -1,6 +1,6 @@
 -- A set of outlets as one number: with one outlet more, and the set of all outlets from one to another.
 use mathlib.Core.Path.{◌≡◌, sym, ◌∙◌, ap}
-use mathlib.Core.Bool.{Bool, true, false, ◌&&◌, and_false}
+use mathlib.Core.Bool.{Bool, true, false, ◌&&◌, and-false}
 use Prim.Native.Nat.{ℕ, zero, suc, ◌+◌, ◌-◌, ◌*◌, ◌/◌, ◌%◌, ◌^◌, ◌≤◌, ◌<◌, max}
 use native.Mathlib.Omega.{arith}
 use native.Mathlib.Nat.{pow-suc}
@@ -35,7 +35,7 @@ module _ (w m v : ℕ) (h : v < w) where
 pub none : (v : ℕ) (t : ℕ → Bool) → ((x : ℕ) → x < v → t x ≡ false) → Passed 0 v t
 none v t h x =
     elim (dec_lt x v) [
-      | yes l ↦ rw (bit-none x, h x l, and_false (ltb x v))
+      | yes l ↦ rw (bit-none x, h x l, and-false (ltb x v))
       | no n ↦ rw (bit-none x, le-ltb x v (omega arith))
     ]
 

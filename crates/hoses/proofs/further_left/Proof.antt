@@ -11,13 +11,13 @@ use Rattle.hoses.proofs.Bits.{shl_one, ones_below}
 use Rattle.hoses.proofs.further_left.Statement.{statement}
 use Rattle.hoses.proofs.further_left.Tie as tie
 
-shl-result : tie.Need-overflow-shl-result
+shl-result : tie.Need-overflow_shl-result
 shl-result c = search rules
 
-sub-result : tie.Need-overflow-sub-result
+sub-result : tie.Need-overflow_sub-result
 sub-result c = omega (arith, shl_one 64 c.args.bin c.requires, pow_pos c.args.bin)
 
-cast-result : tie.Need-overflow-cast-result
+cast-result : tie.Need-overflow_cast-result
 cast-result c =
     let masked : ℕ = bit_and c.args.set ((1 * 2 ^ c.args.bin) % 2 ^ 64 - 1) in
     omega
@@ -29,5 +29,5 @@ returns c =
     ap (λ (n : ℕ). ones (bit_and c.args.set (n - 1))) (shl_one 64 c.args.bin c.requires)
     ∙ ones_below c.args.set c.args.bin
 
-pub further-left-spec : {M : Type 1} → statement M
-further-left-spec = tie.close (tie.spec shl-result sub-result cast-result returns)
+pub further_left_spec : {M : Type 1} → statement M
+further_left_spec = tie.close (tie.spec shl-result sub-result cast-result returns)

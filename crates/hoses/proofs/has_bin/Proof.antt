@@ -10,18 +10,18 @@ use Rattle.hoses.proofs.Bits.{bit-beyond, bit_tested}
 use Rattle.hoses.proofs.has_bin.Statement.{statement}
 use Rattle.hoses.proofs.has_bin.Tie as tie
 
-shr-result : tie.Need-overflow-shr-result
+shr-result : tie.Need-overflow_shr-result
 shr-result c = search rules
 
-returns : tie.Need-returns
+returns : tie.Need-returns-then-bin-lt64
 returns c = ap (λ (n : ℕ). eqb n 1) (bit_tested c.before.args.set c.before.args.bin)
 
-returns-2 : tie.Need-returns-2
+returns-2 : tie.Need-returns-else-bin-lt64
 returns-2 c =
     let set = c.before.args.set in
     let bin = c.before.args.bin in
     let none : bit set bin ≡ 0 = bit-beyond set 64 bin (omega arith) (omega arith) in
     le-ltb bin 64 (omega arith) ∙ sym (ne_eqb (bit set bin) 1 (λ e. omega arith))
 
-pub has-bin-spec : {M : Type 1} → statement M
-has-bin-spec = tie.close (tie.spec shr-result returns returns-2)
+pub has_bin_spec : {M : Type 1} → statement M
+has_bin_spec = tie.close (tie.spec shr-result returns returns-2)

@@ -32,62 +32,62 @@ to_come_step : (rest b : ℕ) → 0 < rest → rest < 2 ^ 64 → to_come rest b 
 unfolding to_come profile
 to_come_step rest b p h = sum_lowest (sum (profile b)) 64 rest p h
 
-abbrev invariant-loop : tie.invariant-loop
+abbrev invariant-loop : tie.invariant-loop-rest
 invariant-loop a b crossings₀ rest₀ crossings rest = (rest < 2 ^ 64) × (crossings + to_come rest b ≡ cross (profile a) (profile b))
 
-abbrev decreases-loop : tie.decreases-loop
+abbrev decreases-loop : tie.decreases-loop-rest
 decreases-loop a b crossings₀ rest₀ crossings rest = rest
 
 -- what each turn goes by
-module _ (c : tie.In-loop invariant-loop decreases-loop) where
-  some : 0 < c.before.loop.rest
-  some = omega (arith, c.loop-test.true)
+module _ (c : tie.In-loop-rest invariant-loop decreases-loop) where
+  some : 0 < c.before.loop-rest.rest
+  some = omega (arith, c.loop-rest-test.true)
 
-  within : c.before.loop.rest < 2 ^ 64
+  within : c.before.loop-rest.rest < 2 ^ 64
   within = omega arith
 
-loop-holds : tie.Need-loop-init invariant-loop decreases-loop
+loop-holds : tie.Need-loop-rest-init invariant-loop decreases-loop
 loop-holds c = (omega arith, omega (arith, toCome-all c.args.a c.args.b))
 
-cast-further-left : tie.Need-overflow-cast-further-left invariant-loop decreases-loop
-cast-further-left c = omega (arith, lowest_within 64 c.before.loop.rest (some c) (within c))
+cast-further-left : tie.Need-overflow_cast-rest invariant-loop decreases-loop
+cast-further-left c = omega (arith, lowest_within 64 c.before.loop-rest.rest (some c) (within c))
 
-further-left-requires : tie.Need-further-left-requires invariant-loop decreases-loop
-further-left-requires c κs = lowest_within 64 c.before.loop.rest (some c) (within c)
+further-left-requires : tie.Need-further_left-crossings-requires invariant-loop decreases-loop
+further-left-requires c κs = lowest_within 64 c.before.loop-rest.rest (some c) (within c)
 
-add-crossings : tie.Need-overflow-add-crossings invariant-loop decreases-loop
+add-crossings : tie.Need-overflow_add-crossings invariant-loop decreases-loop
 add-crossings c =
     omega (
       arith,
-      c.further-left.ensures,
-      to_come_step c.before.before.loop.rest c.before.before.before.args.b (some c.before) (within c.before),
+      c.further_left-crossings.ensures,
+      to_come_step c.before.before.loop-rest.rest c.before.before.before.args.b (some c.before) (within c.before),
       pair_at_most c.before.before.before.args.a c.before.before.before.args.b,
     )
 
-sub-rest : tie.Need-overflow-sub-rest invariant-loop decreases-loop
+sub-rest : tie.Need-overflow_sub-rest invariant-loop decreases-loop
 sub-rest c = some c.before
 
-loop-less : tie.Need-loop-smaller invariant-loop decreases-loop
+loop-less : tie.Need-loop-rest-smaller invariant-loop decreases-loop
 loop-less c =
     omega (
       arith,
-      lowest_gone 64 c.before.before.loop.rest (some c.before) (within c.before),
-      pow_pos (count_trailing_zeros 64 c.before.before.loop.rest),
+      lowest_gone 64 c.before.before.loop-rest.rest (some c.before) (within c.before),
+      pow_pos (count_trailing_zeros 64 c.before.before.loop-rest.rest),
     )
 
-loop-again : tie.Need-loop-preserved invariant-loop decreases-loop
+loop-again : tie.Need-loop-rest-preserved invariant-loop decreases-loop
 loop-again c =
     omega (
       arith,
-      and_le_l c.before.before.loop.rest (c.before.before.loop.rest - 1),
-      c.further-left.ensures,
-      to_come_step c.before.before.loop.rest c.before.before.before.args.b (some c.before) (within c.before),
+      and_le_l c.before.before.loop-rest.rest (c.before.before.loop-rest.rest - 1),
+      c.further_left-crossings.ensures,
+      to_come_step c.before.before.loop-rest.rest c.before.before.before.args.b (some c.before) (within c.before),
     )
 
 returns : tie.Need-returns invariant-loop decreases-loop
 returns c =
-    let done : c.before.loop.rest ≡ 0 = omega arith in
-    is_paired c.before.before.args.a c.before.before.args.b c.before.loop.crossings
+    let done : c.before.loop-rest.rest ≡ 0 = omega arith in
+    is_paired c.before.before.args.a c.before.before.args.b c.before.loop-rest.crossings
     (omega (arith, ap (λ (m : ℕ). to_come m c.before.before.args.b) done, toCome-none c.before.before.args.b))
 
 pub pair_spec : {M : Type 1} → statement M

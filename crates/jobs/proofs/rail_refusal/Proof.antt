@@ -11,5 +11,5 @@ refusal-requires c κs = search rules
 returns : tie.Need-returns
 returns c = c.refusal.ensures ∙ no-budget c.before.before.args.bins c.before.before.args.outlets.now
 
-pub rail-refusal-spec : {M : Type 1} → statement M
-rail-refusal-spec = tie.close (tie.spec refusal-requires returns)
+pub rail_refusal_spec : {M : Type 1} → statement M
+rail_refusal_spec = tie.close (tie.spec refusal-requires returns)

@@ -8,23 +8,23 @@ use Rattle.rules.proofs.Orders.{order-length, entry_on_rail}
 use Rattle.orders.proofs.count.Statement.{statement}
 use Rattle.orders.proofs.count.Tie as tie
 
-refusal-requires : tie.Need-refusal-requires
+refusal-requires : tie.Need-refusal-number-requires
 refusal-requires c κs = search rules
 
-returns : tie.Need-returns
+returns : tie.Need-returns-then-number-ne0
 returns c =
     let s = c.before.before.before.before.args in
-    is_refused s.bins s.outlets.now s.order.now c.before.refusal.result (sym c.before.refusal.ensures) c.if1.true
+    is_refused s.bins s.outlets.now s.order.now c.before.refusal-number.result (sym c.before.refusal-number.ensures) c.if-number-ne0.true
 
 -- what the checks leave
-fits : (c : tie.Else1)
+fits : (c : tie.Else-number-ne0)
     → let s = c.before.before.before.before.args in
     CountFits s.bins s.outlets.now s.order.now
 fits c =
     let s = c.before.before.before.before.args in
-    count_fits s.bins s.outlets.now s.order.now (sym c.before.refusal.ensures ∙ c.if1.false)
+    count_fits s.bins s.outlets.now s.order.now (sym c.before.refusal-number.ensures ∙ c.if-number-ne0.false)
 
-all-crossings-requires : tie.Need-all-crossings-requires
+all-crossings-requires : tie.Need-all_crossings-requires
 all-crossings-requires c κs =
     let s = c.before.before.before.before.args in
     let order = (fits c).is_order in
@@ -32,12 +32,12 @@ all-crossings-requires c κs =
     let few = (fits c).rail.outlets32 in
     (omega arith, entry_on_rail (length s.outlets.now) s.order.now order)
 
-returns-2 : tie.Need-returns-2
+returns-2 : tie.Need-returns
 returns-2 c =
     let s = c.before.before.before.before.before.args in
-    is_counted s.bins s.outlets.now s.order.now c.all-crossings.result
-    (sym c.before.before.refusal.ensures ∙ c.before.if1.false)
-    c.all-crossings.ensures
+    is_counted s.bins s.outlets.now s.order.now c.all_crossings.result
+    (sym c.before.before.refusal-number.ensures ∙ c.before.if-number-ne0.false)
+    c.all_crossings.ensures
 
 pub count_spec : {M : Type 1} → statement M
 count_spec = tie.close (tie.spec refusal-requires returns all-crossings-requires returns-2)

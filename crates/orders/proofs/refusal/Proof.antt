@@ -9,33 +9,33 @@ use Rattle.rules.proofs.Checks.{first-yes, first-no, count_rail, count-order}
 use Rattle.orders.proofs.refusal.Statement.{statement}
 use Rattle.orders.proofs.refusal.Tie as tie
 
-rail-refusal-requires : tie.Need-rail-refusal-requires
+rail-refusal-requires : tie.Need-rail_refusal-rail-requires
 rail-refusal-requires c κs = search rules
 
-returns : tie.Need-returns
+returns : tie.Need-returns-then-rail-ne0
 returns c =
     let s = c.before.before.before.before.args in
-    c.before.rail-refusal.ensures
-    ∙ sym (count_rail s.bins s.outlets.now s.order.now (λ e. omega (arith, c.before.rail-refusal.ensures)))
+    c.before.rail_refusal-rail.ensures
+    ∙ sym (count_rail s.bins s.outlets.now s.order.now (λ e. omega (arith, c.before.rail_refusal-rail.ensures)))
 
-not-an-order-requires : tie.Need-not-an-order-requires
+not-an-order-requires : tie.Need-not_an_order-requires
 not-an-order-requires c κs = search rules
 
-returns-2 : tie.Need-returns-2
+returns-2 : tie.Need-returns-then-not_an_order
 returns-2 c =
     let s = c.before.before.before.before.before.before.args in
     sym
-    (count-order s.bins s.outlets.now s.order.now (omega (arith, c.before.before.before.rail-refusal.ensures))
-    ∙ first-yes (not_an_order (length s.outlets.now) s.order.now) 7 [] (sym c.before.not-an-order.ensures ∙ c.if2.true))
+    (count-order s.bins s.outlets.now s.order.now (omega (arith, c.before.before.before.rail_refusal-rail.ensures))
+    ∙ first-yes (not_an_order (length s.outlets.now) s.order.now) 7 [] (sym c.before.not_an_order.ensures ∙ c.if-not_an_order.true))
 
-returns-3 : tie.Need-returns-3
+returns-3 : tie.Need-returns
 unfolding first_of
 returns-3 c =
     let s = c.before.before.before.before.before.before.args in
     sym
-    (count-order s.bins s.outlets.now s.order.now (omega (arith, c.before.before.before.rail-refusal.ensures))
-    ∙ first-no (not_an_order (length s.outlets.now) s.order.now) 7 [] (sym c.before.not-an-order.ensures ∙ c.if2.false))
+    (count-order s.bins s.outlets.now s.order.now (omega (arith, c.before.before.before.rail_refusal-rail.ensures))
+    ∙ first-no (not_an_order (length s.outlets.now) s.order.now) 7 [] (sym c.before.not_an_order.ensures ∙ c.if-not_an_order.false))
 
-pub refusal-spec : {M : Type 1} → statement M
-refusal-spec =
+pub refusal_spec : {M : Type 1} → statement M
+refusal_spec =
     tie.close (tie.spec rail-refusal-requires returns not-an-order-requires returns-2 returns-3)

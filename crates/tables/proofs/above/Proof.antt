@@ -20,21 +20,21 @@ module _ (c : tie.Start) where
   others : (2 * 2 ^ c.args.u) % 2 ^ 64 ≡ 2 ^ suc c.args.u
   others = shl_exact 2 c.args.u 64 (omega arith) (omega arith) ∙ omega (arith, pow-suc 2 c.args.u)
 
-shl-all : tie.Need-overflow-shl-all
+shl-all : tie.Need-overflow_shl-all
 shl-all c = search rules
 
-shl-others : tie.Need-overflow-shl-others
+shl-others : tie.Need-overflow_shl-others
 shl-others c = search rules
 
-sub-result : tie.Need-overflow-sub-result
+sub-result : tie.Need-overflow_sub-result
 sub-result c = omega (arith, all c, others c, pow_mono c.requires.1)
 
-cast-result : tie.Need-overflow-cast-result
+cast-result : tie.Need-overflow_cast-result
 cast-result c = omega (arith, all c, pow_mono c.requires.0, others c, pow_pos (suc c.args.u))
 
 returns : tie.Need-returns
 returns c v =
     ap₂ (λ (p q : ℕ). eqb (bit (p - q) v) 1) (all c) (others c) ∙ span c.args.u c.args.n v c.requires.1
 
-pub above-spec : {M : Type 1} → statement M
-above-spec = tie.close (tie.spec shl-all shl-others sub-result cast-result returns)
+pub above_spec : {M : Type 1} → statement M
+above_spec = tie.close (tie.spec shl-all shl-others sub-result cast-result returns)

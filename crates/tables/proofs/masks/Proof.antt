@@ -48,60 +48,60 @@ more n k c rows x y h to hx hy p q =
           (subst⁻¹ (λ (m : ℕ). Passed m n (λ v. ltb k v)) (get_or-set_same one (2 * k + 1) y 0 (omega arith)) q);
     }
 
-abbrev invariant-loop : tie.invariant-loop
+abbrev invariant-loop : tie.invariant-loop-u
 invariant-loop costs n rows₀ u₀ rows u = (u ≤ n) × Below n u (cost_in costs) rows
 
-abbrev decreases-loop : tie.decreases-loop
+abbrev decreases-loop : tie.decreases-loop-u
 decreases-loop costs n rows₀ u₀ rows u = n - u
 
-loop-holds : tie.Need-loop-init invariant-loop decreases-loop
+loop-holds : tie.Need-loop-u-init invariant-loop decreases-loop
 loop-holds c = (omega arith, none c.args.n (cost_in c.args.costs.now) c.args.rows.now c.requires.1)
 
 differing-requires : tie.Need-differing-requires invariant-loop decreases-loop
 differing-requires c κs = (omega arith, omega arith)
 
-mul-rows : tie.Need-overflow-mul-rows invariant-loop decreases-loop
+mul-rows : tie.Need-overflow_mul-rows invariant-loop decreases-loop
 mul-rows c = omega arith
 
-mul-rows-2 : tie.Need-overflow-mul-rows-2 invariant-loop decreases-loop
+mul-rows-2 : tie.Need-offset_bounds-rows-u invariant-loop decreases-loop
 mul-rows-2 c = omega arith
 
-element-write-rows : tie.Need-element-write-rows invariant-loop decreases-loop
+element-write-rows : tie.Need-bounds-rows-u invariant-loop decreases-loop
 element-write-rows c = omega arith
 
 above-requires : tie.Need-above-requires invariant-loop decreases-loop
 above-requires c κs = (omega arith, omega arith)
 
-mul-rows-3 : tie.Need-overflow-mul-rows-3 invariant-loop decreases-loop
+mul-rows-3 : tie.Need-overflow_mul-rows-in-loop-u invariant-loop decreases-loop
 mul-rows-3 c = omega arith
 
-add-rows : tie.Need-overflow-add-rows invariant-loop decreases-loop
+add-rows : tie.Need-overflow_add-rows invariant-loop decreases-loop
 add-rows c = omega arith
 
-mul-rows-4 : tie.Need-overflow-mul-rows-4 invariant-loop decreases-loop
+mul-rows-4 : tie.Need-offset_bounds-rows-u-in-loop-u invariant-loop decreases-loop
 mul-rows-4 c = omega arith
 
-element-write-rows-2 : tie.Need-element-write-rows-2 invariant-loop decreases-loop
+element-write-rows-2 : tie.Need-bounds-rows-u-in-loop-u invariant-loop decreases-loop
 element-write-rows-2 c = omega arith
 
-add-u : tie.Need-overflow-add-u invariant-loop decreases-loop
+add-u : tie.Need-overflow_step-u invariant-loop decreases-loop
 add-u c = omega arith
 
-loop-less : tie.Need-loop-smaller invariant-loop decreases-loop
+loop-less : tie.Need-loop-u-smaller invariant-loop decreases-loop
 loop-less c = omega arith
 
-loop-again : tie.Need-loop-preserved invariant-loop decreases-loop
+loop-again : tie.Need-loop-u-preserved invariant-loop decreases-loop
 loop-again c =
     let turn = c.before.before.before in
     let start = turn.before in (
       omega arith,
-      more start.args.n turn.loop.u (cost_in start.args.costs.now) turn.loop.rows c.before.differing.result
-          c.above.result (omega arith) turn.loop.invariant.1 (omega (arith, c.before.differing.type-inv)) (omega (arith, c.above.type-inv)) c.before.differing.ensures c.above.ensures,
+      more start.args.n turn.loop-u.u (cost_in start.args.costs.now) turn.loop-u.rows c.before.differing.result
+          c.above.result (omega arith) turn.loop-u.invariant.1 (omega (arith, c.before.differing.type-inv)) (omega (arith, c.above.type-inv)) c.before.differing.ensures c.above.ensures,
     )
 
 returns : tie.Need-returns invariant-loop decreases-loop
 returns c =
-    let masks = c.before.loop.invariant.1 in
+    let masks = c.before.loop-u.invariant.1 in
     record {
       size = masks.size;
       fit = masks.fit;
@@ -109,8 +109,8 @@ returns c =
       above = λ u v l. masks.above u (omega arith) v;
     }
 
-pub masks-spec : {M : Type 1} → statement M
-masks-spec =
+pub masks_spec : {M : Type 1} → statement M
+masks_spec =
     tie.close
     (tie.spec
     invariant-loop

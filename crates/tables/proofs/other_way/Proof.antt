@@ -9,33 +9,33 @@ use Rattle.tables.proofs.BothWays.{product_at_most, two_ways}
 use Rattle.tables.proofs.other_way.Statement.{statement}
 use Rattle.tables.proofs.other_way.Tie as tie
 
-product : (c : tie.After-at-outlet2) → c.before.at-outlet.result * c.at-outlet2.result ≡ hoses (profile c.before.before.args.a) * hoses (profile c.before.before.args.b)
-product c = ap₂ (λ (p q : ℕ). p * q) c.before.at-outlet.ensures c.at-outlet2.ensures
+product : (c : tie.After-at_outlet-2) → c.before.at_outlet.result * c.at_outlet-2.result ≡ hoses (profile c.before.before.args.a) * hoses (profile c.before.before.args.b)
+product c = ap₂ (λ (p q : ℕ). p * q) c.before.at_outlet.ensures c.at_outlet-2.ensures
 
-at-outlet-requires : tie.Need-at-outlet-requires
+at-outlet-requires : tie.Need-at_outlet-requires
 at-outlet-requires c κs = search rules
 
-at-outlet-requires-2 : tie.Need-at-outlet-requires-2
+at-outlet-requires-2 : tie.Need-at_outlet-requires-2
 at-outlet-requires-2 c κs = search rules
 
-mul-result : tie.Need-overflow-mul-result
+mul-result : tie.Need-overflow_mul-result
 mul-result c =
     record { fits = omega (arith, product c, product_at_most c.before.before.args.a c.before.before.args.b) }
 
-at-outlet-requires-3 : tie.Need-at-outlet-requires-3
+at-outlet-requires-3 : tie.Need-at_outlet-requires-3
 at-outlet-requires-3 c κs = search rules
 
-sub-result : tie.Need-overflow-sub-result
+sub-result : tie.Need-overflow_sub-result
 sub-result c =
     omega
-    (arith, product c.before, c.at-outlet3.ensures, two_ways c.before.before.before.args.a c.before.before.before.args.b)
+    (arith, product c.before, c.at_outlet-3.ensures, two_ways c.before.before.before.args.a c.before.before.before.args.b)
 
-sub-result-2 : tie.Need-overflow-sub-result-2
+sub-result-2 : tie.Need-overflow_sub-result-2
 sub-result-2 c =
     omega (
       arith,
       product c.before,
-      c.at-outlet3.ensures,
+      c.at_outlet-3.ensures,
       two_ways c.before.before.before.args.a c.before.before.before.args.b,
       c.before.before.before.requires.crossings,
     )
@@ -46,13 +46,13 @@ returns c =
     (omega (
       arith,
       product c.before,
-      c.at-outlet3.ensures,
+      c.at_outlet-3.ensures,
       two_ways c.before.before.before.args.a c.before.before.before.args.b,
       c.before.before.before.requires.crossings,
     ))
 
-pub other-way-spec : {M : Type 1} → statement M
-other-way-spec =
+pub other_way_spec : {M : Type 1} → statement M
+other_way_spec =
     tie.close
     (tie.spec
     at-outlet-requires

@@ -10,26 +10,26 @@ use Rattle.tables.proofs.BothWays.{product_at_most, two_ways}
 use Rattle.tables.proofs.own.Statement.{statement}
 use Rattle.tables.proofs.own.Tie as tie
 
-module _ (c : tie.After-at-outlet) where
-  product : c.at-outlet.result * c.at-outlet.result ≡ hoses (profile c.before.args.a) * hoses (profile c.before.args.a)
-  product = ap₂ (λ (p q : ℕ). p * q) c.at-outlet.ensures c.at-outlet.ensures
+module _ (c : tie.After-at_outlet-at_a) where
+  product : c.at_outlet-at_a.result * c.at_outlet-at_a.result ≡ hoses (profile c.before.args.a) * hoses (profile c.before.args.a)
+  product = ap₂ (λ (p q : ℕ). p * q) c.at_outlet-at_a.ensures c.at_outlet-at_a.ensures
 
   shared : hoses (profile (bit_and c.before.args.a c.before.args.a)) ≡ hoses (profile c.before.args.a)
   shared = ap (λ (m : ℕ). hoses (profile m)) (and_self c.before.args.a)
 
-at-outlet-requires : tie.Need-at-outlet-requires
+at-outlet-requires : tie.Need-at_outlet-at_a-requires
 at-outlet-requires c κs = search rules
 
-mul-result : tie.Need-overflow-mul-result
+mul-result : tie.Need-overflow_mul-result
 mul-result c = record { fits = omega (arith, product c, product_at_most c.before.args.a c.before.args.a) }
 
-sub-result : tie.Need-overflow-sub-result
-sub-result c = omega (arith, product c, shared c, two_ways c.before.args.a c.before.args.a, c.at-outlet.ensures)
+sub-result : tie.Need-overflow_sub-result
+sub-result c = omega (arith, product c, shared c, two_ways c.before.args.a c.before.args.a, c.at_outlet-at_a.ensures)
 
 returns : tie.Need-returns
 returns c =
     is_paired c.before.args.a c.before.args.a _
-    (omega (arith, product c, shared c, two_ways c.before.args.a c.before.args.a, c.at-outlet.ensures))
+    (omega (arith, product c, shared c, two_ways c.before.args.a c.before.args.a, c.at_outlet-at_a.ensures))
 
-pub own-spec : {M : Type 1} → statement M
-own-spec = tie.close (tie.spec at-outlet-requires mul-result sub-result returns)
+pub own_spec : {M : Type 1} → statement M
+own_spec = tie.close (tie.spec at-outlet-requires mul-result sub-result returns)
