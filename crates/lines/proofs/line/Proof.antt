@@ -20,14 +20,14 @@ read-requires c κs = search rules
 
 refused-line-requires : tie.Need-refused-line-requires
 refused-line-requires c κs =
-    omega (arith, refused_at_most c.before.before.before.read.result.number (omega (arith, c.before.before.before.read.type-inv)), c.before.before.before.before.before.before.well-formed)
+    omega (arith, refused_at_most c.before.before.before.read.result.number (omega (arith, c.before.before.before.read.type_inv)), c.before.before.before.before.before.before.well-formed)
 
 returns : tie.Need-returns
 unfolding own_room
 returns c =
     let a = c.before.before.before.before.before.before.before.args in
     let r = c.before.before.before.before.read in
-    made a.sheet.now a.room.now _ (no_job a.sheet.now _ r.ensures c.before.before.if1.true) (omega (arith, c.before.before.before.before.before.before.before.well-formed)) (refused_at_most r.result.number (omega (arith, r.type-inv))) _ c.refused-line.ensures.0 c.refused-line.ensures.1
+    made a.sheet.now a.room.now _ (no_job a.sheet.now _ r.ensures c.before.before.if1.true) (omega (arith, c.before.before.before.before.before.before.before.well-formed)) (refused_at_most r.result.number (omega (arith, r.type_inv))) _ c.refused-line.ensures.0 c.refused-line.ensures.1
 
 -- a job that was read has no more outlets than its room holds,
 few : (c : tie.Else1) → c.before.before.read.result.outlets ≤ length c.before.before.read.new.1.0
@@ -53,7 +53,7 @@ fits c =
     let r = c.before.before.before.before.before.read in
     let f = c.search in
     let n : length (take r.result.outlets r.new.1.0) ≡ r.result.outlets = length-take-le _ _ (few c.before.before.before) in
-    rw n at (answer_fits r.result.bins (take r.result.outlets r.new.1.0) r.result.budget _ f.ensures (omega (arith, f.type-inv)) (omega (arith, f.type-inv)))
+    rw n at (answer_fits r.result.bins (take r.result.outlets r.new.1.0) r.result.budget _ f.ensures (omega (arith, f.type_inv)) (omega (arith, f.type_inv)))
 
 array-share-prefix-order : tie.Need-array-share-prefix-order
 array-share-prefix-order c = omega (arith, few c.before.before.before.before.before, c.before.before.before.before.before.before.before.read.auto, c.before.before.search.auto)

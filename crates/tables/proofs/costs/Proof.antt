@@ -34,7 +34,7 @@ loop-again c =
       refl,
       omega arith,
       c.beside.ensures.table,
-      beside_all turn.before.before.args.outlets.now turn.loop-u.table c.beside.new.1.1.0 turn.loop-u.u turn.loop-u.invariant.3 c.beside.ensures,
+      beside_all turn.before.before.args.outlets.now turn.loop-u.table c.beside.new.table turn.loop-u.u turn.loop-u.invariant.3 c.beside.ensures,
     )
 
 returns : tie.Need-returns invariant-loop decreases-loop

@@ -11,6 +11,7 @@ use Rattle.tables.specs.Tables.{cost_in, Passed, differ}
 use Rattle.tables.proofs.OutletSets.{none, taken, over}
 use Rattle.tables.proofs.differing.Statement.{statement}
 use Rattle.tables.proofs.differing.Tie as tie
+use Rattle.tables.proofs.differing.Lts.{then-costs-u, else-costs-u}
 
 -- what the test in the loop says
 differs : (costs : List ℕ) (u v : ℕ) → u < v → (get_or costs (32 * u + v) 0 ≡ get_or costs (32 * v + u) 0 → ⊥) → differ (cost_in costs) u v ≡ true
@@ -77,10 +78,10 @@ loop-again c =
     let u : ℕ = turn.before.args.u in
     let v : ℕ = turn.loop-v.v in
     let passed : Passed turn.loop-v.mask v (differ (cost_in costs) u) = turn.loop-v.invariant.2 in
-    let put : Passed c.if-costs-u.mask (v + 1) (differ (cost_in costs) u) = ⊎_elim
-    (λ w. rw w.1 (taken turn.loop-v.mask v (differ (cost_in costs) u) passed 32 (omega arith) (differs costs u v (omega arith) w.0.taken)))
-    (λ w. rw w.1 (over turn.loop-v.mask v (differ (cost_in costs) u) passed (differs-not costs u v (omega arith) w.0.left)))
-    c.if-costs-u.branch in
+    let put : Passed c.if-costs-u.mask (v + 1) (differ (cost_in costs) u) = elim c.if-costs-u.branch [
+        then-costs-u w ↦ rw w.mask-is (taken turn.loop-v.mask v (differ (cost_in costs) u) passed 32 (omega arith) (differs costs u v (omega arith) w.if-costs-u.true))
+      | else-costs-u w ↦ rw w.mask-is (over turn.loop-v.mask v (differ (cost_in costs) u) passed (differs-not costs u v (omega arith) w.if-costs-u.false))
+    ] in
     (omega arith, omega arith, put)
 
 returns : tie.Need-returns invariant-loop decreases-loop

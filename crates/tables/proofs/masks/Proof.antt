@@ -96,7 +96,7 @@ loop-again c =
     let start = turn.before in (
       omega arith,
       more start.args.n turn.loop-u.u (cost_in start.args.costs.now) turn.loop-u.rows c.before.differing.result
-          c.above.result (omega arith) turn.loop-u.invariant.1 (omega (arith, c.before.differing.type-inv)) (omega (arith, c.above.type-inv)) c.before.differing.ensures c.above.ensures,
+          c.above.result (omega arith) turn.loop-u.invariant.1 (omega (arith, c.before.differing.type_inv)) (omega (arith, c.above.type_inv)) c.before.differing.ensures c.above.ensures,
     )
 
 returns : tie.Need-returns invariant-loop decreases-loop

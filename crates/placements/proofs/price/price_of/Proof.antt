@@ -42,7 +42,7 @@ lefts-requires : tie.Need-lefts-requires invariant-loop decreases-loop
 lefts-requires c κs = (omega arith, omega arith, c.before.requires.0)
 
 loop-holds : tie.Need-loop-init invariant-loop decreases-loop
-loop-holds c = omega (arith, c.lefts.type-inv)
+loop-holds c = omega (arith, c.lefts.type_inv)
 
 cast-u : tie.Need-overflow-cast-u invariant-loop decreases-loop
 cast-u c = omega (arith, low c)
@@ -98,8 +98,8 @@ returns c =
     let brings : Brings start.args.rows.now start.args.a start.args.b left.lefts.result right.rights.result =
     record {
       pair = start.requires.1;
-      left_fits = omega (arith, left.lefts.type-inv);
-      right_fits = omega (arith, right.rights.type-inv);
+      left_fits = omega (arith, left.lefts.type_inv);
+      right_fits = omega (arith, right.rights.type_inv);
       lefts = left.lefts.ensures;
       rights = right.rights.ensures;
     } in (
