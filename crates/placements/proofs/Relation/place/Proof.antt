@@ -13,7 +13,7 @@ grow-requires-2 c κs = search rules
 returns : tie.Need-returns
 returns c a b brings =
     let grown : tie.After-grow = c.before.before in
-    placed_rows grown.before.before.requires brings grown.grow.ensures c.grow2.ensures
+    placed_rows grown.before.before.requires brings grown.grow.ensures c.grow-2.ensures
 
-pub place-spec : {M : Type 1} → statement M
-place-spec = tie.close (tie.spec grow-requires grow-requires-2 returns)
+pub place_spec : {M : Type 1} → statement M
+place_spec = tie.close (tie.spec grow-requires grow-requires-2 returns)

@@ -9,24 +9,24 @@ use Rattle.placements.specs.Rows.{reads}
 use Rattle.placements.proofs.Relation.placed.Statement.{statement}
 use Rattle.placements.proofs.Relation.placed.Tie as tie
 
-mul-result : tie.Need-overflow-mul-result
+mul-result : tie.Need-overflow_mul-result
 mul-result c = search rules
 
-mul-result-2 : tie.Need-overflow-mul-result-2
+mul-result-2 : tie.Need-offset_bounds-self-a
 mul-result-2 c = search rules
 
-element-copy-out-result : tie.Need-element-copy-out-result
+element-copy-out-result : tie.Need-bounds-self-a
 element-copy-out-result c = search rules
 
-cast-result : tie.Need-overflow-cast-result
+cast-result : tie.Need-overflow_cast-result
 cast-result c = search rules
 
-shr-result : tie.Need-overflow-shr-result
+shr-result : tie.Need-overflow_shr-result
 shr-result c = search rules
 
 returns : tie.Need-returns
 unfolding reads
-returns c = ap (λ (n : ℕ). eqb n 1) (bit_tested (get_or c.before.args.t1.rows (2 * c.before.args.a) 0) c.before.args.b)
+returns c = ap (λ (n : ℕ). eqb n 1) (bit_tested (get_or c.args.self.rows (2 * c.args.a) 0) c.args.b)
 
-pub placed-spec : {M : Type 1} → statement M
-placed-spec = tie.close (tie.spec mul-result mul-result-2 element-copy-out-result cast-result shr-result returns)
+pub placed_spec : {M : Type 1} → statement M
+placed_spec = tie.close (tie.spec mul-result mul-result-2 element-copy-out-result cast-result shr-result returns)

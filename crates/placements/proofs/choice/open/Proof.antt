@@ -6,34 +6,34 @@ use Rattle.placements.proofs.Reading.{has_open_below}
 use Rattle.placements.proofs.choice.open.Statement.{statement}
 use Rattle.placements.proofs.choice.open.Tie as tie
 
-mul-result : tie.Need-overflow-mul-result
+mul-result : tie.Need-overflow_mul-result
 mul-result c = search rules
 
-mul-result-2 : tie.Need-overflow-mul-result-2
+mul-result-2 : tie.Need-offset_bounds-masks-a
 mul-result-2 c = search rules
 
-element-copy-out-result : tie.Need-element-copy-out-result
+element-copy-out-result : tie.Need-bounds-masks-a
 element-copy-out-result c = search rules
 
-mul-result-3 : tie.Need-overflow-mul-result-3
+mul-result-3 : tie.Need-overflow_mul-result-2
 mul-result-3 c = search rules
 
-mul-result-4 : tie.Need-overflow-mul-result-4
+mul-result-4 : tie.Need-offset_bounds-rows-a
 mul-result-4 c = search rules
 
-element-copy-out-result-2 : tie.Need-element-copy-out-result-2
+element-copy-out-result-2 : tie.Need-bounds-rows-a
 element-copy-out-result-2 c = search rules
 
-mul-result-5 : tie.Need-overflow-mul-result-5
+mul-result-5 : tie.Need-overflow_mul-result-3
 mul-result-5 c = search rules
 
-add-result : tie.Need-overflow-add-result
+add-result : tie.Need-overflow_add-result
 add-result c = search rules
 
-mul-result-6 : tie.Need-overflow-mul-result-6
+mul-result-6 : tie.Need-offset_bounds-rows-a-2
 mul-result-6 c = search rules
 
-element-copy-out-result-3 : tie.Need-element-copy-out-result-3
+element-copy-out-result-3 : tie.Need-bounds-rows-a-2
 element-copy-out-result-3 c = search rules
 
 returns : tie.Need-returns

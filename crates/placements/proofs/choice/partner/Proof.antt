@@ -9,7 +9,7 @@ use Rattle.placements.proofs.choice.partner.Tie as tie
 open-requires : tie.Need-open-requires
 open-requires c κs = search rules
 
-cast-result : tie.Need-overflow-cast-result
+cast-result : tie.Need-overflow_cast-result
 cast-result c = omega (arith, trailing_le 32 c.«open».result)
 
 returns : tie.Need-returns
@@ -20,5 +20,5 @@ returns c =
           c.«open».ensures some;
     }
 
-pub partner-spec : {M : Type 1} → statement M
-partner-spec = tie.close (tie.spec open-requires cast-result returns)
+pub partner_spec : {M : Type 1} → statement M
+partner_spec = tie.close (tie.spec open-requires cast-result returns)

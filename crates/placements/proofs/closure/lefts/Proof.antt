@@ -12,34 +12,34 @@ use Rattle.placements.proofs.Reading.{has_left}
 use Rattle.placements.proofs.closure.lefts.Statement.{statement}
 use Rattle.placements.proofs.closure.lefts.Tie as tie
 
-mul-result : tie.Need-overflow-mul-result
+mul-result : tie.Need-overflow_mul-result
 mul-result c = search rules
 
-add-result : tie.Need-overflow-add-result
+add-result : tie.Need-overflow_add-result
 add-result c = search rules
 
-mul-result-2 : tie.Need-overflow-mul-result-2
+mul-result-2 : tie.Need-offset_bounds-rows-a
 mul-result-2 c = search rules
 
-element-copy-out-result : tie.Need-element-copy-out-result
+element-copy-out-result : tie.Need-bounds-rows-a
 element-copy-out-result c = search rules
 
-cast-result : tie.Need-overflow-cast-result
+cast-result : tie.Need-overflow_cast-result
 cast-result c = search rules
 
-shl-result : tie.Need-overflow-shl-result
+shl-result : tie.Need-overflow_shl-result
 shl-result c = search rules
 
-mul-result-3 : tie.Need-overflow-mul-result-3
+mul-result-3 : tie.Need-overflow_mul-result-2
 mul-result-3 c = search rules
 
-add-result-2 : tie.Need-overflow-add-result-2
+add-result-2 : tie.Need-overflow_add-result-2
 add-result-2 c = search rules
 
-mul-result-4 : tie.Need-overflow-mul-result-4
+mul-result-4 : tie.Need-offset_bounds-rows-b
 mul-result-4 c = search rules
 
-element-copy-out-result-2 : tie.Need-element-copy-out-result-2
+element-copy-out-result-2 : tie.Need-bounds-rows-b
 element-copy-out-result-2 c = search rules
 
 returns : tie.Need-returns
@@ -51,8 +51,8 @@ returns c u =
     has_with_without 32 (get_or rows (2 * a + 1) 0) a (get_or rows (2 * b + 1) 0) u (held.fit (2 * a + 1)) c.before.before.requires.0 (held.fit (2 * b + 1))
     ∙ ap₂ (λ (s t : Bool). (eqb u a || s) && not t) (has_left rows held a u) (has_left rows held b u)
 
-pub lefts-spec : {M : Type 1} → statement M
-lefts-spec =
+pub lefts_spec : {M : Type 1} → statement M
+lefts_spec =
     tie.close
     (tie.spec
     mul-result

@@ -12,28 +12,28 @@ use Rattle.placements.proofs.Reading.{has_right}
 use Rattle.placements.proofs.closure.rights.Statement.{statement}
 use Rattle.placements.proofs.closure.rights.Tie as tie
 
-mul-result : tie.Need-overflow-mul-result
+mul-result : tie.Need-overflow_mul-result
 mul-result c = search rules
 
-mul-result-2 : tie.Need-overflow-mul-result-2
+mul-result-2 : tie.Need-offset_bounds-rows-b
 mul-result-2 c = search rules
 
-element-copy-out-result : tie.Need-element-copy-out-result
+element-copy-out-result : tie.Need-bounds-rows-b
 element-copy-out-result c = search rules
 
-cast-result : tie.Need-overflow-cast-result
+cast-result : tie.Need-overflow_cast-result
 cast-result c = search rules
 
-shl-result : tie.Need-overflow-shl-result
+shl-result : tie.Need-overflow_shl-result
 shl-result c = search rules
 
-mul-result-3 : tie.Need-overflow-mul-result-3
+mul-result-3 : tie.Need-overflow_mul-result-2
 mul-result-3 c = search rules
 
-mul-result-4 : tie.Need-overflow-mul-result-4
+mul-result-4 : tie.Need-offset_bounds-rows-a
 mul-result-4 c = search rules
 
-element-copy-out-result-2 : tie.Need-element-copy-out-result-2
+element-copy-out-result-2 : tie.Need-bounds-rows-a
 element-copy-out-result-2 c = search rules
 
 returns : tie.Need-returns
@@ -45,8 +45,8 @@ returns c v =
     has_with_without 32 (get_or rows (2 * b) 0) b (get_or rows (2 * a) 0) v (held.fit (2 * b)) c.before.before.requires.1 (held.fit (2 * a))
     ∙ ap₂ (λ (s t : Bool). (eqb v b || s) && not t) (has_right rows b v) (has_right rows a v)
 
-pub rights-spec : {M : Type 1} → statement M
-rights-spec =
+pub rights_spec : {M : Type 1} → statement M
+rights_spec =
     tie.close
     (tie.spec
     mul-result
