@@ -1,7 +1,7 @@
 // What was tried, and the failures of each kind.
 ghost use Rattle.std.specs.Prelude.{◌≤◌};
 
-#[derive(Drop)]
+#[derive(Clone, Copy)]
 pub struct Tally {
     pub rails: u64,
     pub searches: u64,

@@ -124,7 +124,7 @@ fn price(rows: &[u32; 64], costs: &[u16; 1024], a: usize, b: usize, rest: u64) -
 }
 
 // One of the two ways in which a pair can stand.
-#[derive(Drop)]
+#[derive(Clone, Copy)]
 struct Way {
     left: usize,
     right: usize,

@@ -91,7 +91,7 @@ pub fn refusal(bins: u64, outlets: &[u64], order: &[u8]) -> u64
 
 // What a count answers: a refusal's number and 0, or 0 and the crossings.
 #[repr(C)]
-#[derive(Drop)]
+#[derive(Clone, Copy)]
 pub struct CountAnswer {
     pub number: u64,
     pub crossings: u64,

@@ -14,14 +14,14 @@ ghost use Rattle.placements.specs.Rows.{reads, Rows, Brings, PlacedIn, Within, B
 pub use choice::{chosen, leaves_unplaced, partner};
 pub use price::{equal_costs, price_of, spent};
 
-#[derive(Drop)]
+#[derive(Clone, Copy)]
 pub struct Relation {
     pub rows: [u32; 64],
 }
 
 // A placement that may be made: what it takes from the budget, those who come to stand left of somebody new by it, and those who come to stand right
 // of somebody new.
-#[derive(Drop)]
+#[derive(Clone, Copy)]
 pub struct Placement {
     pub cost: u64,
     pub left: u32,

@@ -9,7 +9,7 @@ ghost use Rattle.search.specs.Walked.{Walked, Settled, HandedOver};
 use placements::Relation;
 
 #[repr(C)]
-#[derive(Drop)]
+#[derive(Clone, Copy)]
 pub struct Found {
     pub number: u64,
     pub crossings: u64,

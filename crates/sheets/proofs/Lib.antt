@@ -10,4 +10,3 @@ pub mod SetLaws
 pub mod RoundTrip
 pub mod BothWays
 pub mod TwoReaders
-pub mod WalkLaws

@@ -10,7 +10,7 @@ use crate::records::{record_at, wide};
 
 // A refusal has its number, and 0 for every other number; the budget is 255 where none is written.
 #[repr(C)]
-#[derive(Drop)]
+#[derive(Clone, Copy)]
 pub struct Job {
     pub number: u64,
     pub bins: u64,
@@ -19,7 +19,7 @@ pub struct Job {
 }
 
 // An outlet record: the set of its bins, and where the next record starts.
-#[derive(Drop)]
+#[derive(Clone, Copy)]
 pub struct Outlet {
     pub number: u64,
     pub set: u64,
@@ -27,14 +27,14 @@ pub struct Outlet {
 }
 
 // Some outlet records: where they end.
-#[derive(Drop)]
+#[derive(Clone, Copy)]
 pub struct Outlets {
     pub number: u64,
     pub next: u64,
 }
 
 // A head, or a whole sheet: the head's numbers, and where what follows starts.
-#[derive(Drop)]
+#[derive(Clone, Copy)]
 pub struct Sheet {
     pub number: u64,
     pub bins: u64,

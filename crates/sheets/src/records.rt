@@ -5,7 +5,7 @@ ghost use Rattle.sheets.specs.Records.{record_at};
 
 // A refusal has its number, zeros, and the place that was asked; the end is number 0 and kind 0.
 #[repr(C)]
-#[derive(Drop)]
+#[derive(Clone, Copy)]
 pub struct Record {
     pub number: u64,
     pub kind: u64,

@@ -4,7 +4,7 @@ ghost use Rattle.rules.specs.Next.{NextRecord};
 
 use crate::records::{Record, next};
 
-#[derive(Drop)]
+#[derive(Clone, Copy)]
 pub struct Walk<'a> {
     pub sheet: &'a [u8],
     pub place: u64,

@@ -6,7 +6,7 @@ ghost use Rattle.rules.specs.Write.{SheetWritten};
 
 // A refusal has its number and 0.
 #[repr(C)]
-#[derive(Drop)]
+#[derive(Clone, Copy)]
 pub struct Written {
     pub number: u64,
     pub length: u64,

@@ -12,87 +12,87 @@ use borrow.Author.Rules.{rules}
 use Rattle.sheets.proofs.reading.head_at.Statement.{statement}
 use Rattle.sheets.proofs.reading.head_at.Tie as tie
 
-record-at-requires : tie.Need-record-at-requires
+record-at-requires : tie.Need-record_at-r-requires
 record-at-requires c κs = search rules
 
-no-sheet-requires : tie.Need-no-sheet-requires
+no-sheet-requires : tie.Need-no_sheet-requires
 no-sheet-requires c κs = search rules
 
-returns : tie.Need-returns
+returns : tie.Need-returns-then-number-ne0
 returns c =
-    let a = c.before.before.before.before.args in
-    let n = not_got 1 a.sheet.now a.place c.before.before.record-at.result c.before.before.record-at.ensures in
-    c.no-sheet.ensures
-    ∙ rw n (sym (head_refused a.room a.sheet.now a.place (λ z. c.before.if1.true (n ∙ z))))
+    let a = c.args in
+    let n = not_got 1 a.sheet.now a.place c.record_at-r.result c.record_at-r.ensures in
+    c.no_sheet.ensures
+    ∙ rw n (sym (head_refused a.room a.sheet.now a.place (λ z. c.if-number-ne0.true (n ∙ z))))
 
 -- behind the test the record is whole, and its body three bytes
-whole : (c : tie.Else1) → Got 1 c.before.before.before.args.sheet.now c.before.before.before.args.place c.before.record-at.result
-whole c = got 1 _ _ _ c.before.record-at.ensures c.if1.false
+whole : (c : tie.Else-number-ne0) → Got 1 c.args.sheet.now c.args.place c.record_at-r.result
+whole c = got 1 _ _ _ c.record_at-r.ensures c.if-number-ne0.false
 
-three : (c : tie.Else1) → c.before.record-at.result.start + 3 ≤ length c.before.before.before.args.sheet.now
+three : (c : tie.Else-number-ne0) → c.record_at-r.result.start + 3 ≤ length c.args.sheet.now
 unfolding after
 three c =
-    let a = c.before.before.before.args in
+    let a = c.args in
     omega (arith, whole c, head_is_three (length_at a.sheet.now a.place) (whole c).good_length)
 
-shared-slice-read-wide : tie.Need-shared-slice-read-wide
+shared-slice-read-wide : tie.Need-bounds-sheet-at
 shared-slice-read-wide c = omega (arith, three c.before)
 
-wide-requires : tie.Need-wide-requires
+wide-requires : tie.Need-wide-bins-requires
 wide-requires c κs = search rules
 
-add_wide : tie.Need-overflow-add-wide
+add_wide : tie.Need-overflow_add-at
 add_wide c = omega (arith, three c.before.before)
 
-shared-slice-read-wide-2 : tie.Need-shared-slice-read-wide-2
+shared-slice-read-wide-2 : tie.Need-bounds-sheet-at-2
 shared-slice-read-wide-2 c = omega (arith, three c.before.before.before)
 
-wide-requires-2 : tie.Need-wide-requires-2
+wide-requires-2 : tie.Need-wide-outlets-requires
 wide-requires-2 c κs = search rules
 
-add-wide-2 : tie.Need-overflow-add-wide-2
+add-wide-2 : tie.Need-overflow_add-at-2
 add-wide-2 c = omega (arith, three c.before.before.before.before)
 
-shared-slice-read-wide-3 : tie.Need-shared-slice-read-wide-3
+shared-slice-read-wide-3 : tie.Need-bounds-sheet-at-3
 shared-slice-read-wide-3 c = omega (arith, three c.before.before.before.before.before)
 
-wide-requires-3 : tie.Need-wide-requires-3
+wide-requires-3 : tie.Need-wide-budget-requires
 wide-requires-3 c κs = search rules
 
-head-numbers-requires : tie.Need-head-numbers-requires
+head-numbers-requires : tie.Need-head_numbers-number-requires
 head-numbers-requires c κs = search rules
 
-no-sheet-requires-2 : tie.Need-no-sheet-requires-2
+no-sheet-requires-2 : tie.Need-no_sheet-requires-then-number-ne0-2
 no-sheet-requires-2 c κs = search rules
 
 -- the three bytes are the head's numbers
-bins : (c : tie.After-wide3) → c.before.before.before.before.wide.result ≡ head_bins c.before.before.before.before.before.before.before.before.before.args.sheet.now c.before.before.before.before.before.before.before.before.before.args.place
-bins c = c.before.before.before.before.wide.ensures ∙ bins_byte _ _ _ (whole c.before.before.before.before.before.before).start
+bins : (c : tie.After-wide-budget) → c.wide-bins.result ≡ head_bins c.args.sheet.now c.args.place
+bins c = c.wide-bins.ensures ∙ bins_byte _ _ _ (whole c.before.before.before.before.before.before).start
 
-outlets : (c : tie.After-wide3) → c.before.before.wide2.result ≡ head_outlets c.before.before.before.before.before.before.before.before.before.args.sheet.now c.before.before.before.before.before.before.before.before.before.args.place
-outlets c = c.before.before.wide2.ensures ∙ outlets_byte _ _ _ (whole c.before.before.before.before.before.before).start
+outlets : (c : tie.After-wide-budget) → c.wide-outlets.result ≡ head_outlets c.args.sheet.now c.args.place
+outlets c = c.wide-outlets.ensures ∙ outlets_byte _ _ _ (whole c.before.before.before.before.before.before).start
 
-budget : (c : tie.After-wide3) → c.wide3.result ≡ head_budget c.before.before.before.before.before.before.before.before.before.args.sheet.now c.before.before.before.before.before.before.before.before.before.args.place
-budget c = c.wide3.ensures ∙ budget_byte _ _ _ (whole c.before.before.before.before.before.before).start
+budget : (c : tie.After-wide-budget) → c.wide-budget.result ≡ head_budget c.args.sheet.now c.args.place
+budget c = c.wide-budget.ensures ∙ budget_byte _ _ _ (whole c.before.before.before.before.before.before).start
 
-returns-2 : tie.Need-returns-2
+returns-2 : tie.Need-returns-then-number-ne0-2
 returns-2 c =
-    let a = c.before.before.before.before.before.before.before.before.before.before.before.before.args in
-    let n = c.before.before.head-numbers.ensures in
-    let w = c.before.before.before in
-    c.no-sheet2.ensures
-    ∙ rw n (sym (numbers_refused a.room a.sheet.now a.place _ _ _ (bins w) (outlets w) (budget w) (whole w.before.before.before.before.before.before).passes (λ z. c.before.if2.true (n ∙ z))))
+    let a = c.args in
+    let n = c.head_numbers-number.ensures in
+    let w = c in
+    c.no_sheet-then-number-ne0-2.ensures
+    ∙ rw n (sym (numbers_refused a.room a.sheet.now a.place _ _ _ (bins w.before.before.before) (outlets w.before.before.before) (budget w.before.before.before) (whole w.before.before.before.before.before.before.before.before.before).passes (λ z. c.if-number-ne0-2.true (n ∙ z))))
 
-returns-3 : tie.Need-returns-3
+returns-3 : tie.Need-returns
 returns-3 c =
-    let a = c.before.before.before.before.before.before.before.before.before.before.before.args in
-    let n = c.before.head-numbers.ensures in
-    let w = c.before.before in
-    let g = whole w.before.before.before.before.before.before in
-    sym (head_taken a.room a.sheet.now a.place _ _ _ (bins w) (outlets w) (budget w) g.passes _ g.next (sym n ∙ c.if2.false))
+    let a = c.args in
+    let n = c.head_numbers-number.ensures in
+    let w = c in
+    let g = whole w.before.before.before.before.before.before.before.before in
+    sym (head_taken a.room a.sheet.now a.place _ _ _ (bins w.before.before) (outlets w.before.before) (budget w.before.before) g.passes _ g.next (sym n ∙ c.if-number-ne0-2.false))
 
-pub head-at-spec : {M : Type 1} → statement M
-head-at-spec =
+pub head_at_spec : {M : Type 1} → statement M
+head_at_spec =
     tie.close
     (tie.spec
     record-at-requires

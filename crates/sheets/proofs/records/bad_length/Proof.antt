@@ -4,11 +4,11 @@ use Rattle.sheets.proofs.RecordLaws.{head_length, outlet_length}
 use Rattle.sheets.proofs.records.bad_length.Statement.{statement}
 use Rattle.sheets.proofs.records.bad_length.Tie as tie
 
-returns : tie.Need-returns
-returns c = sym (head_length c.before.args.kind c.before.args.length c.if1.true)
+returns : tie.Need-returns-then-kind-eq1
+returns c = sym (head_length c.args.kind c.args.length c.if-kind-eq1.true)
 
-returns-2 : tie.Need-returns-2
-returns-2 c = sym (outlet_length c.before.args.kind c.before.args.length c.if1.false)
+returns-2 : tie.Need-returns-else-kind-eq1
+returns-2 c = sym (outlet_length c.args.kind c.args.length c.if-kind-eq1.false)
 
-pub bad-length-spec : {M : Type 1} → statement M
-bad-length-spec = tie.close (tie.spec returns returns-2)
+pub bad_length_spec : {M : Type 1} → statement M
+bad_length_spec = tie.close (tie.spec returns returns-2)

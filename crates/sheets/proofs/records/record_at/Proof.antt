@@ -9,92 +9,92 @@ use Rattle.sheets.proofs.RecordLaws.{fewer_than_four, other_kind, wrong_length, 
 use Rattle.sheets.proofs.records.record_at.Statement.{statement}
 use Rattle.sheets.proofs.records.record_at.Tie as tie
 
-no-record-requires : tie.Need-no-record-requires
+no-record-requires : tie.Need-no_record-requires
 no-record-requires c κs = search rules
 
-returns : tie.Need-returns
+returns : tie.Need-returns-then-n-place
 returns c =
-    let a = c.before.before.before.args in
+    let a = c.args in
     c.no_record.ensures ∙ sym (refused_at a.kind a.sheet.now a.place 7 (fewer_than_four a.kind a.sheet.now a.place (omega arith)))
 
-no-record-requires-2 : tie.Need-no-record-requires-2
+no-record-requires-2 : tie.Need-no_record-requires-then-n-place-lt4
 no-record-requires-2 c κs = search rules
 
-returns-2 : tie.Need-returns-2
+returns-2 : tie.Need-returns-then-n-place-lt4
 returns-2 c =
-    let a = c.before.before.before.before.args in
-    c.no-record2.ensures ∙ sym (refused_at a.kind a.sheet.now a.place 7 (fewer_than_four a.kind a.sheet.now a.place (omega arith)))
+    let a = c.args in
+    c.no_record-then-n-place-lt4.ensures ∙ sym (refused_at a.kind a.sheet.now a.place 7 (fewer_than_four a.kind a.sheet.now a.place (omega arith)))
 
-add-two : tie.Need-overflow-add-two
+add-two : tie.Need-overflow_add-at
 add-two c = search rules
 
 two-requires : tie.Need-two-requires
 two-requires c κs = search rules
 
-no-record-requires-3 : tie.Need-no-record-requires-3
+no-record-requires-3 : tie.Need-no_record-requires-then-two-kind
 no-record-requires-3 c κs = search rules
 
-returns-3 : tie.Need-returns-3
+returns-3 : tie.Need-returns-then-two-kind
 unfolding kind_at
 returns-3 c =
-    let a = c.before.before.before.before.before.before.args in
-    c.no-record3.ensures ∙ sym (refused_at a.kind a.sheet.now a.place 8 (other_kind a.kind a.sheet.now a.place (omega arith) (λ e. c.before.if3.true (c.before.before.two.ensures ∙ e))))
+    let a = c.args in
+    c.no_record-then-two-kind.ensures ∙ sym (refused_at a.kind a.sheet.now a.place 8 (other_kind a.kind a.sheet.now a.place (omega arith) (λ e. c.if-two-kind.true (c.two.ensures ∙ e))))
 
 -- behind the first three tests: four bytes are there, and the kind is the one that is due
-four : (c : tie.Else3) → c.before.before.before.before.before.args.place + 4 ≤ length c.before.before.before.before.before.args.sheet.now
+four : (c : tie.Else-two-kind) → c.args.place + 4 ≤ length c.args.sheet.now
 four c = omega arith
 
-of_kind : (c : tie.Else3) → kind_at c.before.before.before.before.before.args.sheet.now c.before.before.before.before.before.args.place ≡ c.before.before.before.before.before.args.kind
+of_kind : (c : tie.Else-two-kind) → kind_at c.args.sheet.now c.args.place ≡ c.args.kind
 unfolding kind_at
-of_kind c = sym c.before.two.ensures ∙ c.if3.false
+of_kind c = sym c.two.ensures ∙ c.if-two-kind.false
 
 -- what is said of the length
-length_tested : (c : tie.After-bad-length) → bad_length c.before.before.before.before.before.before.before.args.kind (length_at c.before.before.before.before.before.before.before.args.sheet.now c.before.before.before.before.before.before.before.args.place) ≡ c.bad-length.result
+length_tested : (c : tie.After-bad_length) → bad_length c.args.kind (length_at c.args.sheet.now c.args.place) ≡ c.bad_length.result
 unfolding length_at
-length_tested c = ap (bad_length c.before.before.before.before.before.before.before.args.kind) (sym c.before.two2.ensures) ∙ sym c.bad-length.ensures
+length_tested c = ap (bad_length c.args.kind) (sym c.two-length.ensures) ∙ sym c.bad_length.ensures
 
-two-requires-2 : tie.Need-two-requires-2
+two-requires-2 : tie.Need-two-length-requires
 two-requires-2 c κs = search rules
 
-bad-length-requires : tie.Need-bad-length-requires
+bad-length-requires : tie.Need-bad_length-requires
 bad-length-requires c κs = search rules
 
-no-record-requires-4 : tie.Need-no-record-requires-4
+no-record-requires-4 : tie.Need-no_record-requires-then-bad_length
 no-record-requires-4 c κs = search rules
 
-returns-4 : tie.Need-returns-4
+returns-4 : tie.Need-returns-then-bad_length
 returns-4 c =
-    let a = c.before.before.before.before.before.before.before.before.before.args in
-    c.no-record4.ensures ∙ sym (refused_at a.kind a.sheet.now a.place 9 (wrong_length a.kind a.sheet.now a.place (four c.before.before.before.before) (of_kind c.before.before.before.before) (length_tested c.before.before ∙ c.before.if4.true)))
+    let a = c.args in
+    c.no_record-then-bad_length.ensures ∙ sym (refused_at a.kind a.sheet.now a.place 9 (wrong_length a.kind a.sheet.now a.place (four c.before.before.before.before) (of_kind c.before.before.before.before) (length_tested c.before.before ∙ c.if-bad_length.true)))
 
-add_start : tie.Need-overflow-add-start
+add_start : tie.Need-overflow_add-start
 add_start c = search rules
 
-sub-if5 : tie.Need-overflow-sub-if5
+sub-if5 : tie.Need-overflow_sub-n-2
 sub-if5 c = search rules
 
-no-record-requires-5 : tie.Need-no-record-requires-5
+no-record-requires-5 : tie.Need-no_record-requires-then-n-start
 no-record-requires-5 c κs = search rules
 
-returns-5 : tie.Need-returns-5
+returns-5 : tie.Need-returns-then-n-start
 unfolding length_at after
 returns-5 c =
-    let a = c.before.before.before.before.before.before.before.before.before.before.args in
-    c.no-record5.ensures ∙ sym (refused_at a.kind a.sheet.now a.place 7 (body_past_the_end a.kind a.sheet.now a.place (four c.before.before.before.before.before) (of_kind c.before.before.before.before.before) (length_tested c.before.before.before ∙ c.before.before.if4.false) (omega arith)))
+    let a = c.args in
+    c.no_record-then-n-start.ensures ∙ sym (refused_at a.kind a.sheet.now a.place 7 (body_past_the_end a.kind a.sheet.now a.place (four c.before.before.before.before.before) (of_kind c.before.before.before.before.before) (length_tested c.before.before.before ∙ c.if-bad_length.false) (omega arith)))
 
-add-t10 : tie.Need-overflow-add-t10
+add-t10 : tie.Need-overflow_add-result
 add-t10 c = search rules
 
-returns-6 : tie.Need-returns-6
+returns-6 : tie.Need-returns
 unfolding length_at after
 returns-6 c =
-    let a = c.before.before.before.before.before.before.before.before.before.args in
-    let n = c.before.before.before.two2.ensures in
+    let a = c.args in
+    let n = c.two-length.ensures in
     rw n
-    (sym (found_at a.kind a.sheet.now a.place (whole a.kind a.sheet.now a.place (record { four = four c.before.before.before.before; of_kind = of_kind c.before.before.before.before; good_length = length_tested c.before.before ∙ c.before.if4.false; fits = omega arith }))))
+    (sym (found_at a.kind a.sheet.now a.place (whole a.kind a.sheet.now a.place (record { four = four c.before.before.before.before; of_kind = of_kind c.before.before.before.before; good_length = length_tested c.before.before ∙ c.if-bad_length.false; fits = omega arith }))))
 
-pub record-at-spec : {M : Type 1} → statement M
-record-at-spec =
+pub record_at_spec : {M : Type 1} → statement M
+record_at_spec =
     tie.close
     (tie.spec
     no-record-requires

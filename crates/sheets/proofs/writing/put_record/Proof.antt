@@ -8,43 +8,43 @@ use borrow.Author.Rules.{rules}
 use Rattle.sheets.proofs.writing.put_record.Statement.{statement}
 use Rattle.sheets.proofs.writing.put_record.Tie as tie
 
-at-outlet-requires : tie.Need-at-outlet-requires
+at-outlet-requires : tie.Need-at_outlet-requires
 at-outlet-requires c κs = search rules
 
-put-two-requires : tie.Need-put-two-requires
+put-two-requires : tie.Need-put_two-requires
 put-two-requires c κs =
-    let a = c.before.before.before.args in
-    omega (arith, c.at-outlet.ensures, at_most64 a.set, record_of-length 2 (bins_of a.set))
+    let a = c.args in
+    omega (arith, c.at_outlet.ensures, at_most64 a.set, record_of-length 2 (bins_of a.set))
 
-add-put-two : tie.Need-overflow-add-put-two
+add-put-two : tie.Need-overflow_add-at
 add-put-two c = search rules
 
-put-two-requires-2 : tie.Need-put-two-requires-2
+put-two-requires-2 : tie.Need-put_two-requires-2
 put-two-requires-2 c κs =
-    let a = c.before.before.before.before.before.before.before.args in
-    omega (arith, record_of-length 2 (bins_of a.set), c.before.before.before.put_two.auto)
+    let a = c.args in
+    omega (arith, record_of-length 2 (bins_of a.set), c.put_two.auto)
 
-add-put-bins : tie.Need-overflow-add-put-bins
+add-put-bins : tie.Need-overflow_add-at-2
 add-put-bins c = search rules
 
-put-bins-requires : tie.Need-put-bins-requires
+put-bins-requires : tie.Need-put_bins-requires
 put-bins-requires c κs =
-    let a = c.before.before.before.before.before.before.before.before.before.before.before.args in
-    omega (arith, record_of-length 2 (bins_of a.set), c.before.before.before.put-two2.auto, c.before.before.before.before.before.before.before.put_two.auto)
+    let a = c.args in
+    omega (arith, record_of-length 2 (bins_of a.set), c.put_two-2.auto, c.put_two.auto)
 
-same_length : tie.Need-same-length
+same_length : tie.Need-shape_of-room
 same_length c = search rules
 
 returns : tie.Need-returns
 returns c =
-    let a = c.before.before.before.before.before.before.before.before.before.before.before.before.before.before.args in
-    let b = c.before.before.put-bins in (
+    let a = c.args in
+    let b = c.put_bins in (
       omega (arith, b.ensures.0, record_of-length 2 (bins_of a.set)),
-      record_stored a.room.now _ _ _ a.at a.set _ c.before.before.before.before.before.before.before.before.before.before.before.at-outlet.ensures c.before.before.before.before.before.before.before.before.before.before.put_two.ensures c.before.before.before.before.before.before.put-two2.ensures b.ensures.1,
+      record_stored a.room.now _ _ _ a.at a.set _ c.at_outlet.ensures c.put_two.ensures c.put_two-2.ensures b.ensures.1,
     )
 
-pub put-record-spec : {M : Type 1} → statement M
-put-record-spec =
+pub put_record_spec : {M : Type 1} → statement M
+put_record_spec =
     tie.close
     (tie.spec
     at-outlet-requires
