@@ -391,6 +391,23 @@ pub record First (n : ℕ) (costs rows : List ℕ) (a b rest total : ℕ) (room 
   pub counts : total ≡ 2 + told
   pub trial : Trial n costs rows a b rest told room
 
+-- It opens a case that is known for a leaf, it opens another case, or it opens none.
+module _ {n : ℕ} {costs masks rows : List ℕ} {from a b rest cost left right total : ℕ} {room end : List ℕ}
+    (k : CaseOf n costs masks rows from a b rest) (p : PriceWithin costs rows a b rest cost left right) where
+  pub first_leaf : cost ≤ rest → {answer : Bool} → answer ≡ true → LeafIn n masks rows rest cost left right answer → total ≡ 4 → end ≡ room
+      → First n costs rows a b rest total end
+  first_leaf within told waits t e =
+      rw (t, e) (record { told = 2; counts = refl; trial = trial_leaf _ _ _ _ _ _ _ _ k p within (rw told at waits) _ })
+
+  pub first_opens : cost ≤ rest → {copy next : List ℕ} {r : ℕ} → copy ≡ rows
+      → ((x y : ℕ) → Brings copy x y left right → PlacedIn copy x y next)
+      → Opened n costs next (rest - cost) r room → total ≡ 2 + r → end ≡ room → First n costs rows a b rest total end
+  first_opens within same places opens t e =
+      rw (t, e) (record { told = _; counts = refl; trial = trial_opens _ _ _ _ _ _ _ _ k p within _ (placed_copy same (p.brings within) places) _ _ opens })
+
+  pub first_none : rest < cost → total ≡ 2 → end ≡ room → First n costs rows a b rest total end
+  first_none beyond t e = rw (t, e) (record { told = 0; counts = refl; trial = trial_not _ _ _ _ _ _ _ _ k p beyond _ })
+
 module _ {n : ℕ} {costs rows : List ℕ} {a b rest total : ℕ} {room : List ℕ} (f : First n costs rows a b rest total room) where
   abbrev way : ℕ → ℕ → ℕ → Outcome
   way m x y = trial n (cost_in costs) (opened n (cost_in costs) m) (reads rows) rest x y

@@ -5,14 +5,14 @@ use borrow.Author.Rules.{rules}
 use Rattle.cases.proofs.is_leaf.Statement.{statement}
 use Rattle.cases.proofs.is_leaf.Tie as tie
 
-returns : tie.Need-returns
+returns : tie.Need-returns-then-placement-rest
 returns c = record { all = λ e. absurd (false≢true e); some = record { leaves = λ e. absurd (false≢true e) } }
 
-leaves-unplaced-requires : tie.Need-leaves-unplaced-requires
+leaves-unplaced-requires : tie.Need-leaves_unplaced-requires
 leaves-unplaced-requires c κs = search rules
 
-returns-2 : tie.Need-returns-2
-returns-2 c = record { all = λ e. c.before.if1.false; some = c.leaves-unplaced.ensures }
+returns-2 : tie.Need-returns
+returns-2 c = record { all = λ e. c.if-placement-rest.false; some = c.leaves_unplaced.ensures }
 
-pub is-leaf-spec : {M : Type 1} → statement M
-is-leaf-spec = tie.close (tie.spec returns leaves-unplaced-requires returns-2)
+pub is_leaf_spec : {M : Type 1} → statement M
+is_leaf_spec = tie.close (tie.spec returns leaves-unplaced-requires returns-2)

@@ -5,16 +5,16 @@ use Rattle.cases.proofs.Steps.{tells_settled, tells_not_settled}
 use Rattle.cases.proofs.settle.Statement.{statement}
 use Rattle.cases.proofs.settle.Tie as tie
 
-equal-costs-requires : tie.Need-equal-costs-requires
+equal-costs-requires : tie.Need-equal_costs-requires
 equal-costs-requires c κs = search rules
 
-returns : tie.Need-returns
-returns c = tells_not_settled _ _ _ _ _ c.before.equal-costs.ensures _ c.if1.true
+returns : tie.Need-returns-then-rest-equal_costs
+returns c = tells_not_settled _ _ _ _ _ c.equal_costs.ensures _ c.if-rest-equal_costs.true
 
-returns-2 : tie.Need-returns-2
+returns-2 : tie.Need-returns
 returns-2 c =
-    let k = c.before.before.before.requires in
-    tells_settled _ _ _ _ _ c.before.before.equal-costs.ensures k.0.held k.0.within k.1 c.before.if1.false
+    let k = c.requires in
+    tells_settled _ _ _ _ _ c.equal_costs.ensures k.0.held k.0.within k.1 c.if-rest-equal_costs.false
 
-pub settle-spec : {M : Type 1} → statement M
-settle-spec = tie.close (tie.spec equal-costs-requires returns returns-2)
+pub settle_spec : {M : Type 1} → statement M
+settle_spec = tie.close (tie.spec equal-costs-requires returns returns-2)
