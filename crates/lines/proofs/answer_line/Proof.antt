@@ -7,41 +7,41 @@ use Rattle.lines.proofs.Laws.{answers_order, answers_none, answers_refused}
 use Rattle.lines.proofs.answer_line.Statement.{statement}
 use Rattle.lines.proofs.answer_line.Tie as tie
 
-order-line-requires : tie.Need-order-line-requires
-order-line-requires c κs = let a = c.before.before.before.before.args in omega (arith, ap length (answers_order a.number a.order.now a.crossings a.cases c.before.if1.true))
+order-line-requires : tie.Need-order_line-requires
+order-line-requires c κs = let a = c.args in omega (arith, ap length (answers_order a.number a.order.now a.crossings a.cases c.if-number-eq0.true))
 
-same_length : tie.Need-same-length
+same_length : tie.Need-shape_of-room-then-number-eq0
 same_length c = search rules
 
-returns : tie.Need-returns
+returns : tie.Need-returns-then-number-eq0
 returns c =
-    let a = c.before.before.before.before.before.before.before.args in rw (answers_order a.number a.order.now a.crossings a.cases c.before.before.before.before.if1.true) c.before.before.order-line.ensures
+    let a = c.args in rw (answers_order a.number a.order.now a.crossings a.cases c.if-number-eq0.true) c.order_line.ensures
 
-no-order-line-requires : tie.Need-no-order-line-requires
-no-order-line-requires c κs = let a = c.before.before.before.before.before.args in omega (arith, ap length (answers_none a.number a.order.now a.crossings a.cases c.before.if2.true))
+no-order-line-requires : tie.Need-no_order_line-requires
+no-order-line-requires c κs = let a = c.args in omega (arith, ap length (answers_none a.number a.order.now a.crossings a.cases c.if-number-eq6.true))
 
-same-length-2 : tie.Need-same-length-2
+same-length-2 : tie.Need-shape_of-room-then-number-eq6
 same-length-2 c = search rules
 
-returns-2 : tie.Need-returns-2
+returns-2 : tie.Need-returns-then-number-eq6
 returns-2 c =
-    let a = c.before.before.before.before.before.before.before.before.args in rw (answers_none a.number a.order.now a.crossings a.cases c.before.before.before.before.if2.true) c.before.before.no-order-line.ensures
+    let a = c.args in rw (answers_none a.number a.order.now a.crossings a.cases c.if-number-eq6.true) c.no_order_line.ensures
 
-refused-line-requires : tie.Need-refused-line-requires
+refused-line-requires : tie.Need-refused_line-requires
 refused-line-requires c κs =
-    let a = c.before.before.before.before.before.args in
-    omega (arith, ap length (answers_refused a.number a.order.now a.crossings a.cases c.before.before.if1.false c.before.if2.false))
+    let a = c.args in
+    omega (arith, ap length (answers_refused a.number a.order.now a.crossings a.cases c.if-number-eq0.false c.if-number-eq6.false))
 
-same-length-3 : tie.Need-same-length-3
+same-length-3 : tie.Need-shape_of-room
 same-length-3 c = search rules
 
-returns-3 : tie.Need-returns-3
+returns-3 : tie.Need-returns
 returns-3 c =
-    let a = c.before.before.before.before.before.before.before.before.args in
-    rw (answers_refused a.number a.order.now a.crossings a.cases c.before.before.before.before.before.if1.false c.before.before.before.before.if2.false) c.before.before.refused-line.ensures
+    let a = c.args in
+    rw (answers_refused a.number a.order.now a.crossings a.cases c.if-number-eq0.false c.if-number-eq6.false) c.refused_line.ensures
 
-pub answer-line-spec : {M : Type 1} → statement M
-answer-line-spec =
+pub answer_line_spec : {M : Type 1} → statement M
+answer_line_spec =
     tie.close
     (tie.spec
     order-line-requires

@@ -9,23 +9,20 @@ use borrow.Author.Rules.{rules}
 use Rattle.lines.proofs.refused_line.Statement.{statement}
 use Rattle.lines.proofs.refused_line.Tie as tie
 
-slice-aggregate-put-last : tie.Need-slice-aggregate-put-last
-slice-aggregate-put-last c = search rules
-
-put-last-requires : tie.Need-put-last-requires
+put-last-requires : tie.Need-put_last-requires
 unfolding text
-put-last-requires c κs = omega (arith, ap length (refused_parts c.before.before.before.args.number))
+put-last-requires c κs = omega (arith, ap length (refused_parts c.args.number))
 
-same_length : tie.Need-same-length
+same_length : tie.Need-shape_of-room
 same_length c = search rules
 
 returns : tie.Need-returns
 unfolding text
 returns c =
-    let a = c.before.before.before.before.before.before.args in
-    let p = c.before.before.put_last in
+    let a = c.args in
+    let p = c.put_last in
     (omega (arith, p.ensures.0, ap length (refused_parts a.number)), p.ensures.1 ∙ ap (sets a.room.now 0) (sym (refused_parts a.number)))
 
-pub refused-line-spec : {M : Type 1} → statement M
-refused-line-spec =
-    tie.close (tie.spec slice-aggregate-put-last put-last-requires same_length returns)
+pub refused_line_spec : {M : Type 1} → statement M
+refused_line_spec =
+    tie.close (tie.spec put-last-requires same_length returns)
