@@ -39,7 +39,7 @@ impl Tally {
 
 // Counts that stay far below the largest number; nothing is proved of it.
 pub fn more(count: u64, by: u64) -> u64 {
-    std::num::wrapping_add_u64(count, by)
+    count.wrapping_add(by)
 }
 
 // 1 for a failure.

@@ -1,26 +1,30 @@
 // The rails worked by hand, and the edges of the limits: each is run, and its whole answer printed on a line, with what the lent room then holds.
 // A `-` stands for a place of a lent room that the call left as it was.
+#![tactic(auto)]
+
 mod limits;
 mod on_sheets;
 mod print;
 mod table;
 mod typed;
 
-fn main() {
-    table::rows();
-    limits::sizes();
-    limits::budgets();
-    limits::rooms();
-    limits::check_order();
-    typed::pairs();
-    typed::orders();
-    typed::no_orders();
-    on_sheets::three();
-    on_sheets::walked();
-    on_sheets::cut();
-    on_sheets::heads();
-    on_sheets::outlets();
-    on_sheets::long_records();
-    on_sheets::longest();
-    on_sheets::check_order();
+use std::io;
+
+fn main(rt: HostRuntime) -> io::Result<()> {
+    table::rows(&rt)?;
+    limits::sizes(&rt)?;
+    limits::budgets(&rt)?;
+    limits::rooms(&rt)?;
+    limits::check_order(&rt)?;
+    typed::pairs(&rt)?;
+    typed::orders(&rt)?;
+    typed::no_orders(&rt)?;
+    on_sheets::three(&rt)?;
+    on_sheets::walked(&rt)?;
+    on_sheets::cut(&rt)?;
+    on_sheets::heads(&rt)?;
+    on_sheets::outlets(&rt)?;
+    on_sheets::long_records(&rt)?;
+    on_sheets::longest(&rt)?;
+    on_sheets::check_order(&rt)
 }

@@ -1,80 +1,90 @@
 // What a line is made of: words, numbers, sets of bins and rooms, on standard output.
+use std::io;
+
 // What a place of a lent room holds before a call: no order, no sheet and no outlet here has it.
 pub const BEFORE: u8 = 170;
 
 pub const SET_BEFORE: u64 = 170;
 
-pub fn words(text: &[u8]) {
-    io::write_all(1, text);
+pub fn words(rt: &impl Print, text: &str) -> io::Result<()> {
+    print!(rt; "{text}")
 }
 
 // Words, and the number after them.
-pub fn number(text: &[u8], n: u64) {
-    io::write_all(1, text);
-    io::print_decimal(1, n);
+pub fn number(rt: &impl Print, text: &str, n: u64) -> io::Result<()> {
+    print!(rt; "{text}{n}")
 }
 
 // What is asked of an operation that takes a job and a room.
-pub fn job(name: &[u8], bins: u64, outlets: usize, budget: u64, room: usize) {
-    words(name);
-    number(b": bins ", bins);
-    number(b", outlets ", outlets as u64);
-    number(b", budget ", budget);
-    number(b", a room of ", room as u64);
+pub fn job(
+    rt: &impl Print,
+    name: &str,
+    bins: u64,
+    outlets: usize,
+    budget: u64,
+    room: usize,
+) -> io::Result<()> {
+    words(rt, name)?;
+    number(rt, ": bins ", bins)?;
+    number(rt, ", outlets ", outlets as u64)?;
+    number(rt, ", budget ", budget)?;
+    number(rt, ", a room of ", room as u64)
 }
 
-fn byte(value: u8) {
+fn byte(rt: &impl Print, value: u8) -> io::Result<()> {
     if value == BEFORE {
-        words(b" -");
+        words(rt, " -")
     } else {
-        number(b" ", value as u64);
+        number(rt, " ", value as u64)
     }
 }
 
 // The bytes of an order or of a sheet, or of a room for one.
-pub fn bytes(room: &[u8]) {
-    for i in 0..room.len() {
-        byte(room[i]);
+pub fn bytes(rt: &impl Print, room: &[u8]) -> io::Result<()> {
+    for value in room {
+        byte(rt, *value)?;
     }
+    Ok(())
 }
 
 // A set by its bins, as `{ 0 2 3 }`.
-fn bins(set: u64) {
-    words(b" {");
+fn bins(rt: &impl Print, set: u64) -> io::Result<()> {
+    words(rt, " {")?;
     for bin in 0..64u64 {
         if set >> bin & 1 == 1 {
-            number(b" ", bin);
+            number(rt, " ", bin)?;
         }
     }
-    words(b" }");
+    words(rt, " }")
 }
 
-fn outlet(set: u64) {
+fn outlet(rt: &impl Print, set: u64) -> io::Result<()> {
     if set == SET_BEFORE {
-        words(b" -");
+        words(rt, " -")
     } else {
-        bins(set);
+        bins(rt, set)
     }
 }
 
 // The outlets of a rail, or of a room for them.
-pub fn outlets(room: &[u64]) {
-    for i in 0..room.len() {
-        outlet(room[i]);
+pub fn outlets(rt: &impl Print, room: &[u64]) -> io::Result<()> {
+    for set in room {
+        outlet(rt, *set)?;
     }
+    Ok(())
 }
 
 // A room of bytes, to the line's end.
-pub fn room(bytes_in_it: &[u8]) {
-    words(b", room");
-    bytes(bytes_in_it);
-    words(b"\n");
+pub fn room(rt: &impl Print, bytes_in_it: &[u8]) -> io::Result<()> {
+    words(rt, ", room")?;
+    bytes(rt, bytes_in_it)?;
+    words(rt, "\n")
 }
 
 // What a search answers.
-pub fn found(answer: search::Found, bytes_in_room: &[u8]) {
-    number(b": number ", answer.number);
-    number(b", crossings ", answer.crossings);
-    number(b", cases ", answer.cases);
-    room(bytes_in_room);
+pub fn found(rt: &impl Print, answer: search::Found, bytes_in_room: &[u8]) -> io::Result<()> {
+    number(rt, ": number ", answer.number)?;
+    number(rt, ", crossings ", answer.crossings)?;
+    number(rt, ", cases ", answer.cases)?;
+    room(rt, bytes_in_room)
 }

@@ -29,35 +29,35 @@ loop-holds : tie.Need-loop-init invariant-loop decreases-loop
 unfolding F
 loop-holds c = (omega arith, refl, refl)
 
-add-sum : tie.Need-overflow-add-sum invariant-loop decreases-loop
+add-sum : tie.Need-overflow_add-sum invariant-loop decreases-loop
 add-sum c =
-    let i = c.before.loop.counter in
+    let i = c.loop.counter in
     let few : i + 5 ≤ 35 = omega arith in
     let small : F (i + 5) ≤ 2 ^ 35 = le_trans (at_most_power (i + 5)).0 (pow_mono few) in
     omega (arith, adds_up i, small)
 
 loop-again : tie.Need-loop-preserved invariant-loop decreases-loop
 loop-again c =
-    let i = c.before.loop.counter in
+    let i = c.loop.counter in
     let three : i + 4 ≡ i + 1 + 3 = omega arith in
     let four : i + 5 ≡ i + 1 + 4 = omega arith in
     (omega arith, omega (arith, ap F three), omega (arith, adds_up i, ap F four))
 
-sub-result : tie.Need-overflow-sub-result invariant-loop decreases-loop
+sub-result : tie.Need-overflow_sub-result invariant-loop decreases-loop
 sub-result c =
-    let i = c.before.loop.counter in
+    let i = c.loop.counter in
     let three : suc (i + 2) ≡ i + 3 = omega arith in
     omega (arith, at_least_one (i + 2), ap F three)
 
 returns : tie.Need-returns invariant-loop decreases-loop
 returns c =
-    let i = c.before.loop.counter in
+    let i = c.loop.counter in
     let three : suc (i + 2) ≡ i + 3 = omega arith in
-    let all : i + 3 ≡ c.before.before.args.k + 3 = omega arith in
+    let all : i + 3 ≡ c.args.k + 3 = omega arith in
     omega (arith, at_least_one (i + 2), ap F three, ap F all)
 
-pub most-cases-spec : {M : Type 1} → statement M
-most-cases-spec =
+pub most_cases_spec : {M : Type 1} → statement M
+most_cases_spec =
     tie.close
     (tie.spec
     invariant-loop
