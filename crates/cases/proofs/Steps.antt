@@ -1,25 +1,24 @@
 -- The steps of a case, as code takes them: each answer tells the outcome that the walk of the rules has there.
-use mathlib.Core.Bool.{Bool, true, false, not, ◌&&◌, ◌||◌}
+use mathlib.Core.Bool.{Bool, true, ◌&&◌, ◌||◌}
 use mathlib.Core.List.{List}
 use mathlib.Core.Logic.{◌⊎◌, inl, inr}
-use mathlib.Core.Path.{◌≡◌, refl, sym, ◌∙◌, ap, subst}
-use Prim.Native.Nat.{ℕ, zero, suc, ◌+◌, ◌-◌, ◌*◌, ◌%◌, ◌^◌, ◌≤◌, ◌<◌, min}
+use mathlib.Core.Path.{◌≡◌, refl, sym, ◌∙◌, ap}
+use Prim.Native.Nat.{ℕ, zero, suc, ◌+◌, ◌-◌, ◌*◌, ◌%◌, ◌^◌, ◌≤◌, ◌<◌}
 use native.Mathlib.Omega.{arith}
 use borrow.Author.Tests.{ltb-true, ltb-false, lt-ltb, le-ltb}
 use lib.Dec.{ltb, eqb}
 use Rattle.rules.specs.Crossing.{Relation, Cost}
 use Rattle.rules.specs.Placement.{place, price}
-use Rattle.rules.specs.Walk.{End, found, nothing, Outcome, unopened, counted, or_else, unplaced, made, differs, partner, chosen, equal_costs, settled, reach, trial, both_ways, tried, branched, opened, F}
+use Rattle.rules.specs.Walk.{End, found, nothing, Outcome, unopened, counted, or_else, unplaced, made, differs, partner, chosen, settled, trial, both_ways, tried, branched, opened}
 use Rattle.rules.proofs.Sums.{and_left, and_right, least-none, least_passes, least-before, least-within}
-use Rattle.laws.proofs.Terms.{Strict, Paid}
 use Rattle.laws.proofs.Tests.{and_both, not_passed, never_both, or_cases, eq_or_cases}
 use Rattle.laws.proofs.Placing.{unplaced_before, unplaced_if, unplaced_not, unplaced_back, paid_placed, price_pair}
 use Rattle.laws.proofs.Choice.{reach_opens, reach_not, settled-found, settled_not, or_else_first, or_else_other}
 use Rattle.laws.proofs.Leaf.{leaf}
 use Rattle.laws.proofs.Bound.{bound, grows, values}
-use Rattle.tables.specs.Tables.{cost_in, Costs, Masks}
+use Rattle.tables.specs.Tables.{cost_in}
 use Rattle.placements.specs.Rows.{reads, Rows, Unplaced, Brings, PlacedIn, Within, Priced, ChosenIn, PartnerIn, EqualWithin}
-use Rattle.cases.specs.Case.{Case, CaseOf, Cheaper, as_numbered, turned, found_one, told, FoundIn, Tells, Opened, Settled, Tried, PriceWithin, LeafIn}
+use Rattle.cases.specs.Case.{Case, CaseOf, Cheaper, as_numbered, turned, found_one, told, Tells, Opened, Settled, Tried, PriceWithin, LeafIn}
 
 -- ---- outcomes as numbers
 

@@ -1,5 +1,7 @@
 // The cases of the walk: opening a case, and trying the two placements of the pair that it takes, call one another. The rest falls with each case.
 // An answer is one number: twice the cases opened, and one more where an order was found; the rows that make it then stand in the room.
+#![tactic(auto)]
+
 ghost use Rattle.std.specs.Prelude.{◌≡◌, ◌+◌, ◌*◌, ◌≤◌, ◌<◌};
 ghost use Rattle.rules.specs.Walk.{chosen};
 ghost use Rattle.tables.specs.Tables.{cost_in, Costs};

@@ -1,4 +1,6 @@
 // A set of bins is one 64-bit number, bit b for bin b: a bin tested, the hoses at an outlet, those further left, and cross of two outlets.
+#![tactic(auto)]
+
 ghost use Rattle.std.specs.Prelude.{◌≡◌, ◌<◌, eqb};
 ghost use Rattle.rules.specs.Sum.{sum};
 ghost use Rattle.rules.specs.Crossing.{bit, profile, hoses};

@@ -1,5 +1,7 @@
 // The checks of a job, once for every operation that takes one: 1 (bins), 2 (outlets), 3 (budget) and 4 (a hose from no bin of the row).
 // Each answers what the rules' definition of its check says, and 0 where no check holds.
+#![tactic(auto)]
+
 ghost use Rattle.std.specs.Prelude.{◌≡◌};
 ghost use Rattle.rules.specs.Numbers.{bad_budget, stray_hoses, job_checks};
 ghost use Rattle.rules.specs.Count.{rail_checks};

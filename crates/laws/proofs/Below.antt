@@ -1,7 +1,7 @@
 -- The walk looks only at the outlets below n: two costs that agree there, and two relations that do, have one walk. So a table of n outlets serves
 -- where the rules have a function of any two numbers.
 use mathlib.Core.Bool.{Bool, true, false, not, ◌&&◌, true≢false, false≢true}
-use mathlib.Core.List.{[], ◌∷◌}
+use mathlib.Core.List.{◌∷◌}
 use mathlib.Core.Path.{◌≡◌, refl, ◌∙◌, ap, ap₂}
 use Prim.Native.Nat.{ℕ, zero, suc, ◌-◌, ◌<◌}
 use borrow.Author.Tests.{ltb-true}

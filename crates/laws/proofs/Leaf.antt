@@ -1,6 +1,6 @@
 -- A leaf of the walk: a case with nothing left to spend and a pair that is unplaced. Since unplaced pairs cost something, it opens no other case and
 -- finds nothing.
-use mathlib.Core.Bool.{true, ◌&&◌}
+use mathlib.Core.Bool.{◌&&◌}
 use mathlib.Core.Logic.{◌⊎◌, inl, inr}
 use mathlib.Core.Path.{◌≡◌, refl, ◌∙◌, ap, ap₂}
 use Prim.Native.Nat.{ℕ, zero, suc, ◌≤◌, ◌<◌}
@@ -11,7 +11,7 @@ use lib.Dec.{ltb}
 use Rattle.rules.specs.Sum.{only_if}
 use Rattle.rules.specs.Crossing.{Relation, Cost}
 use Rattle.rules.specs.Placement.{place, price}
-use Rattle.rules.specs.Walk.{nothing, Outcome, unopened, counted, or_else, unplaced, equal_costs, trial, both_ways, branched, opened}
+use Rattle.rules.specs.Walk.{nothing, unopened, counted, or_else, unplaced, equal_costs, trial, both_ways, branched, opened}
 use Rattle.rules.proofs.Sums.{only_if_so, pair_sum_term}
 use Rattle.laws.proofs.Terms.{Paid}
 use Rattle.laws.proofs.Tests.{and_both}

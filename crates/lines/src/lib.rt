@@ -1,5 +1,7 @@
 // The line that the program prints for a sheet: its words, numbers in decimal, single blanks, a line feed at the end.
 // The parts of a line are written into a lent room from a place on; each function answers where it stopped.
+#![tactic(auto)]
+
 ghost use Rattle.std.specs.Prelude.{◌≡◌, ◌+◌, ◌≤◌, length};
 ghost use Rattle.std.proofs.lemmas.List.Edits.{sets};
 ghost use Rattle.rules.specs.Line.{decimal, order_line, no_order_line, refused_line, answer_line, LineMade};

@@ -1,4 +1,6 @@
 // An order in bytes: is it one of this rail, and how many crossings has it? `count` is the operation; what stands above it are its parts.
+#![tactic(auto)]
+
 ghost use Rattle.std.specs.Prelude.{◌≡◌, ◌+◌, ◌≤◌, ◌<◌, length, get_or, drop};
 ghost use Rattle.rules.specs.Crossing.{right_of, crossings};
 ghost use Rattle.rules.specs.Rail.{cost};

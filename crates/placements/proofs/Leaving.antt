@@ -7,7 +7,7 @@ use native.Mathlib.Omega.{arith}
 use borrow.Author.Tests.{eq-eqb, eqb-false, ltb-true, not-true}
 use lib.Bits.{bit_and, bit_or, and_le_l, or_lt}
 use lib.Count.{count_trailing_zeros}
-use lib.Dec.{eqb, ltb}
+use lib.Dec.{ltb}
 use lib.ListN.{get_or}
 use lib.Pow.{pow-lt}
 use Rattle.rules.specs.Crossing.{Relation, Cost}

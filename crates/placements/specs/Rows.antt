@@ -1,5 +1,5 @@
 -- The relation of the rules, read off 64 rows of bits: row 2u holds the outlets that stand right of u, row 2u + 1 those that stand left of it.
-use Rattle.std.specs.Prelude.{Bool, true, false, not, ◌&&◌, ◌||◌, List, ◌≡◌, ℕ, suc, ◌+◌, ◌-◌, ◌*◌, ◌^◌, ◌<◌, ◌≤◌, min, max, eqb, length, get_or}
+use Rattle.std.specs.Prelude.{Bool, true, false, not, ◌&&◌, ◌||◌, List, ◌≡◌, ℕ, ◌+◌, ◌-◌, ◌*◌, ◌^◌, ◌<◌, ◌≤◌, min, max, eqb, length, get_or}
 use Rattle.std.specs.Int.Bits.{bit_or}
 use Rattle.rules.specs.Crossing.{Relation, Cost, bit}
 use Rattle.rules.specs.Placement.{place, price, spent}

@@ -1,5 +1,7 @@
 // The placements: a relation on at most 32 outlets, held as rows of bits both ways and handed on whole.
 // Row 2u has the outlets that stand right of u, row 2u + 1 those that stand left of it.
+#![tactic(auto)]
+
 mod base;
 mod choice;
 mod closure;

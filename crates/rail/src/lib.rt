@@ -1,4 +1,6 @@
 // The C face: numbers and rows only, each function a call of one operation, with that operation's contract. `include/rail.h` is its manual.
+#![tactic(auto)]
+
 ghost use Rattle.rules.specs.Pair.{Paired};
 ghost use Rattle.rules.specs.Count.{Counted};
 ghost use Rattle.rules.specs.Search.{Searched};

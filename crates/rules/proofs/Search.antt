@@ -1,14 +1,12 @@
 -- One answer fits a search: two that do are equal, the lent room with them.
-use mathlib.Core.Path.{◌≡◌, refl, sym, ◌∙◌, ap}
+use mathlib.Core.Path.{◌≡◌, sym, ◌∙◌, ap}
 use mathlib.Core.List.{List, ◌++◌}
-use Prim.Native.Nat.{ℕ, ◌≤◌}
+use Prim.Native.Nat.{ℕ}
 use native.Mathlib.Decide.{ℕ_discrete}
-use native.Mathlib.Omega.{arith}
 use lib.ListN.{length, drop}
-use Rattle.rules.specs.Walk.{End, found, nothing}
 use Rattle.rules.specs.Crossing.{crossings}
-use Rattle.rules.specs.Rail.{cost, searched}
-use Rattle.rules.specs.Search.{Found, Searched, Handed, OrderWithin, search_checks}
+use Rattle.rules.specs.Rail.{cost}
+use Rattle.rules.specs.Search.{Found, Searched, Handed, search_checks}
 
 -- answers are equal where their parts are
 same_found : (r s : Found) → r.number ≡ s.number → r.count ≡ s.count → r.cases ≡ s.cases → r.room ≡ s.room → r ≡ s

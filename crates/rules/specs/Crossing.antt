@@ -1,6 +1,6 @@
 -- What a crossing is (document 01, 'The row, the rail and their sizes' and 'What a crossing is'), over profiles: how many hoses an outlet has at each place.
 -- Today a place is a bin, and an outlet has one hose there or none; nothing but `profile` says so.
-use Rattle.std.specs.Prelude.{Bool, true, false, ◌&&◌, ◌||◌, List, [], ◌∷◌, ◌≡◌, ℕ, suc, ◌+◌, ◌*◌, ◌/◌, ◌%◌, ◌^◌, ◌<◌, ◌≤◌, ltb, eqb}
+use Rattle.std.specs.Prelude.{Bool, false, ◌&&◌, ◌||◌, List, [], ◌∷◌, ◌≡◌, ℕ, ◌+◌, ◌*◌, ◌/◌, ◌%◌, ◌^◌, ◌<◌, ◌≤◌, ltb, eqb}
 use Rattle.rules.specs.Sum.{sum, pair_sum, only_if}
 
 -- A set of bins is held as one 64-bit number, bit b for bin b.

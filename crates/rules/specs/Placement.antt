@@ -1,6 +1,6 @@
 -- Placements (document 01, 'Placements made before the search'): the base, what a placement brings with it, and what it costs.
-use Rattle.std.specs.Prelude.{Bool, true, false, not, ◌&&◌, ◌||◌, ℕ, ◌+◌, ◌*◌, ltb, eqb}
-use Rattle.rules.specs.Sum.{sum, pair_sum, every, only_if}
+use Rattle.std.specs.Prelude.{Bool, not, ◌&&◌, ◌||◌, ℕ, ltb, eqb}
+use Rattle.rules.specs.Sum.{pair_sum, every, only_if}
 use Rattle.rules.specs.Crossing.{Profile, Relation, Cost, places, hoses, cross}
 
 unfoldable pub has_hoses : Profile → Bool

@@ -1,7 +1,7 @@
 -- The search (document 01, 'Operations and numbers returned'): what it answers for every input, refused or not.
 use Rattle.std.specs.Prelude.{List, [], ◌∷◌, ◌++◌, ◌↔◌, ◌≡◌, ℕ, ◌+◌, ◌≤◌, length, drop}
 use Rattle.rules.specs.Crossing.{IsOrder, crossings}
-use Rattle.rules.specs.Walk.{Outcome, End, found, F}
+use Rattle.rules.specs.Walk.{found, F}
 use Rattle.rules.specs.Rail.{cost, budget, searched}
 use Rattle.rules.specs.Numbers.{first_of, too_many_bins, too_many_outlets, bad_budget, stray_hoses, room_too_short}
 

@@ -1,28 +1,26 @@
 -- The walk by the tables: what code answers over a table of costs and rows of bits is what the walk over the rail comes to.
-use mathlib.Core.Bool.{Bool, true, false, not, ◌&&◌}
+use mathlib.Core.Bool.{Bool, not, ◌&&◌}
 use mathlib.Core.List.{List, ◌++◌}
 use mathlib.Core.Path.{◌≡◌, refl, sym, ◌∙◌, ap, ap₂}
-use Prim.Native.Nat.{ℕ, suc, ◌+◌, ◌-◌, ◌*◌, ◌/◌, ◌%◌, ◌≤◌, ◌<◌}
+use Prim.Native.Nat.{ℕ, suc, ◌+◌, ◌-◌, ◌/◌, ◌%◌, ◌≤◌, ◌<◌}
 use native.Mathlib.Omega.{arith}
 use borrow.Author.Tests.{le-ltb}
-use lib.Dec.{ltb}
 use lib.ListN.{length, drop}
-use Rattle.rules.specs.Crossing.{Relation, Cost, IsOrder, crossings, stands}
+use Rattle.rules.specs.Crossing.{Relation, Cost, crossings, stands}
 use Rattle.rules.specs.Placement.{spent}
 use Rattle.rules.specs.Rail.{cost, root}
-use Rattle.rules.specs.Search.{Found}
-use Rattle.rules.specs.Walk.{End, found, nothing, Outcome, unopened, unplaced, made, chosen, equal_costs, opened, walk}
+use Rattle.rules.specs.Walk.{found, nothing, Outcome, unopened, unplaced, made, chosen, equal_costs, opened, walk}
 use Rattle.laws.proofs.Terms.{Strict, Paid}
 use Rattle.laws.proofs.Base.{root_strict, root_paid}
-use Rattle.laws.proofs.Below.{Agree, spent_same, walk_same}
+use Rattle.laws.proofs.Below.{spent_same, walk_same}
 use Rattle.laws.proofs.Choice.{reach_opens, reach_not, settles}
 use Rattle.laws.proofs.Pairs.{crossings_spent}
 use Rattle.laws.proofs.Sound.{made_crossings, walk_sound}
-use Rattle.tables.specs.Tables.{cost_in, Costs, CostsOf, Masks}
-use Rattle.placements.specs.Rows.{reads, Rows, Within, BaseOf, Spent}
+use Rattle.tables.specs.Tables.{cost_in, CostsOf, Masks}
+use Rattle.placements.specs.Rows.{reads, BaseOf, Spent}
 use Rattle.cases.specs.Case.{Case, Tells, FoundIn, Opened, told, found_one}
 use Rattle.cases.proofs.Steps.{found_odd, nothing_even, told_nothing}
-use Rattle.search.specs.Walked.{answered, Walked}
+use Rattle.search.specs.Walked.{Walked}
 use Rattle.search.proofs.Answers.{answered_found, answered_nothing}
 
 module _ (rail costs base : List ℕ) (k : ℕ) (few : length rail ≤ 32) (small : k ≤ 30) (C : CostsOf rail costs) (B : BaseOf rail base) where

@@ -1,4 +1,6 @@
 // The search: an order of the outlets within the budget of crossings, or that there is none, and the cases that its walk opened.
+#![tactic(auto)]
+
 ghost use Rattle.std.specs.Prelude.{◌≡◌, ◌≤◌, length};
 ghost use Rattle.rules.specs.Rail.{budget};
 ghost use Rattle.rules.specs.Search.{Searched};

@@ -1,5 +1,7 @@
 // Job sheets: the next record at a place, reading a sheet and writing one.
 // Every operation answers every input; what it answers stands in crates/rules/specs (Next, Read, Write).
+#![tactic(auto)]
+
 mod reading;
 mod records;
 mod walking;

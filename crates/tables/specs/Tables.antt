@@ -1,5 +1,5 @@
 -- The tables that a search makes once: what each pair of outlets costs, 32 to a row, and two masks an outlet.
-use Rattle.std.specs.Prelude.{Bool, true, false, not, ◌&&◌, List, ◌≡◌, ℕ, ◌+◌, ◌*◌, ◌^◌, ◌<◌, ◌≤◌, eqb, ltb, length, get_or}
+use Rattle.std.specs.Prelude.{Bool, not, ◌&&◌, List, ◌≡◌, ℕ, ◌+◌, ◌*◌, ◌^◌, ◌<◌, ◌≤◌, eqb, ltb, length, get_or}
 use Rattle.rules.specs.Crossing.{Cost, bit}
 use Rattle.rules.specs.Rail.{cost}
 

@@ -1,4 +1,6 @@
 // The tables that a search makes once: the cost of each pair of outlets, 32 to a row, and two masks an outlet.
+#![tactic(auto)]
+
 ghost use Rattle.std.specs.Prelude.{◌≡◌, ◌<◌, ◌≤◌, ltb, length, replicate};
 ghost use Rattle.rules.specs.Pair.{Paired};
 ghost use Rattle.tables.specs.Tables.{cost_in, Costs, CostsOf, Beside, Passed, differ, Masks};

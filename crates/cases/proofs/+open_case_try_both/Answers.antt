@@ -1,7 +1,6 @@
 -- Each answer is a law of `Steps`, at the case that was opened or at the pair that it tries.
-use Rattle.std.proofs.Common.{◌≡◌, ◌∙◌, sym, refl, ℕ, arith}
-use Rattle.placements.specs.Rows.{PlacedIn}
-use Rattle.cases.proofs.Steps.{from_start, chosen_is, chosen_below, taken, cheaper_taken, tries_cheaper, settles}
+use Rattle.std.proofs.Common.{◌∙◌, sym, arith}
+use Rattle.cases.proofs.Steps.{chosen_is, chosen_below, taken, cheaper_taken, tries_cheaper, settles}
 use Rattle.cases.proofs.Steps.{other_way, placed_copy, next_case, falls, small, trial_opens, trial_leaf, trial_not, First, first_leaf, first_opens, first_none, tried_first, tried_other, tried_neither}
 use Rattle.cases.proofs.+open_case_try_both.Goals as goal
 use Rattle.cases.proofs.+open_case_try_both.Goals.{try_both-then-first-rest+then-is_leaf, try_both-then-first-rest+else-is_leaf, try_both-else-first-rest}
@@ -44,14 +43,14 @@ try_both-overflow_add-opened-else-is_leaf t c =
     omega (
       arith,
       small _ _ _ _ _ _
-      (next_case _ _ _ _ _ _ _ _ c.requires _ (placed_copy c.of.ensures (c.price-first.ensures.brings c.if-first-rest.true) c.place-next.ensures) _ (omega arith))
-      _ _ c.open_case-opened.ensures,
+          (next_case _ _ _ _ _ _ _ _ c.requires _ (placed_copy c.of.ensures (c.price-first.ensures.brings c.if-first-rest.true) c.place-next.ensures) _ (omega arith))
+          _ _ c.open_case-opened.ensures,
     )
 
 pub try_both-returns-then-opened-eq1 : goal.try_both-returns-then-opened-eq1
 try_both-returns-then-opened-eq1 t c =
     let f : First c.args.n c.args.costs.now c.args.rows.now c.args.a c.args.b c.args.rest c.if-first-rest.opened c.if-first-rest.room = elim c.if-first-rest.branch [
-        try_both-then-first-rest+then-is_leaf w ↦ first_leaf c.requires c.price-first.ensures w.if-first-rest.true w.if-is_leaf.true w.is_leaf.ensures w.opened-is w.room-is
+      | try_both-then-first-rest+then-is_leaf w ↦ first_leaf c.requires c.price-first.ensures w.if-first-rest.true w.if-is_leaf.true w.is_leaf.ensures w.opened-is w.room-is
       | try_both-then-first-rest+else-is_leaf w ↦ first_opens c.requires c.price-first.ensures w.if-first-rest.true w.of.ensures w.place-next.ensures w.open_case-opened.ensures w.opened-is w.room-is
       | try_both-else-first-rest w ↦ first_none c.requires c.price-first.ensures w.if-first-rest.false w.opened-is w.room-is
     ] in
@@ -60,7 +59,7 @@ try_both-returns-then-opened-eq1 t c =
 pub try_both-returns-then-rest-other : goal.try_both-returns-then-rest-other
 try_both-returns-then-rest-other t c =
     let f : First c.args.n c.args.costs.now c.args.rows.now c.args.a c.args.b c.args.rest c.if-first-rest.opened c.if-first-rest.room = elim c.if-first-rest.branch [
-        try_both-then-first-rest+then-is_leaf w ↦ first_leaf c.requires c.price-first.ensures w.if-first-rest.true w.if-is_leaf.true w.is_leaf.ensures w.opened-is w.room-is
+      | try_both-then-first-rest+then-is_leaf w ↦ first_leaf c.requires c.price-first.ensures w.if-first-rest.true w.if-is_leaf.true w.is_leaf.ensures w.opened-is w.room-is
       | try_both-then-first-rest+else-is_leaf w ↦ first_opens c.requires c.price-first.ensures w.if-first-rest.true w.of.ensures w.place-next.ensures w.open_case-opened.ensures w.opened-is w.room-is
       | try_both-else-first-rest w ↦ first_none c.requires c.price-first.ensures w.if-first-rest.false w.opened-is w.room-is
     ] in
@@ -70,7 +69,7 @@ try_both-returns-then-rest-other t c =
 pub try_both-overflow_add-result : goal.try_both-overflow_add-result
 try_both-overflow_add-result t c =
     let f : First c.args.n c.args.costs.now c.args.rows.now c.args.a c.args.b c.args.rest c.if-first-rest.opened c.if-first-rest.room = elim c.if-first-rest.branch [
-        try_both-then-first-rest+then-is_leaf w ↦ first_leaf c.requires c.price-first.ensures w.if-first-rest.true w.if-is_leaf.true w.is_leaf.ensures w.opened-is w.room-is
+      | try_both-then-first-rest+then-is_leaf w ↦ first_leaf c.requires c.price-first.ensures w.if-first-rest.true w.if-is_leaf.true w.is_leaf.ensures w.opened-is w.room-is
       | try_both-then-first-rest+else-is_leaf w ↦ first_opens c.requires c.price-first.ensures w.if-first-rest.true w.of.ensures w.place-next.ensures w.open_case-opened.ensures w.opened-is w.room-is
       | try_both-else-first-rest w ↦ first_none c.requires c.price-first.ensures w.if-first-rest.false w.opened-is w.room-is
     ] in
@@ -79,7 +78,7 @@ try_both-overflow_add-result t c =
 pub try_both-returns-then-is_leaf-2 : goal.try_both-returns-then-is_leaf-2
 try_both-returns-then-is_leaf-2 t c =
     let f : First c.args.n c.args.costs.now c.args.rows.now c.args.a c.args.b c.args.rest c.if-first-rest.opened c.if-first-rest.room = elim c.if-first-rest.branch [
-        try_both-then-first-rest+then-is_leaf w ↦ first_leaf c.requires c.price-first.ensures w.if-first-rest.true w.if-is_leaf.true w.is_leaf.ensures w.opened-is w.room-is
+      | try_both-then-first-rest+then-is_leaf w ↦ first_leaf c.requires c.price-first.ensures w.if-first-rest.true w.if-is_leaf.true w.is_leaf.ensures w.opened-is w.room-is
       | try_both-then-first-rest+else-is_leaf w ↦ first_opens c.requires c.price-first.ensures w.if-first-rest.true w.of.ensures w.place-next.ensures w.open_case-opened.ensures w.opened-is w.room-is
       | try_both-else-first-rest w ↦ first_none c.requires c.price-first.ensures w.if-first-rest.false w.opened-is w.room-is
     ] in
@@ -89,8 +88,7 @@ try_both-returns-then-is_leaf-2 t c =
 
 pub try_both-open_case-requires : goal.try_both-open_case-requires
 try_both-open_case-requires t c =
-    let k = other_way _ _ _ _ _ _ _ _ c.requires in
-    (
+    let k = other_way _ _ _ _ _ _ _ _ c.requires in (
       omega (arith, c.decreases, falls _ _ _ _ _ _ _ _ k c.price-other.ensures c.if-rest-other.false),
       next_case _ _ _ _ _ _ _ _ k _ (placed_copy c.of-2.ensures (c.price-other.ensures.brings c.if-rest-other.false) c.place-next-2.ensures) _ (omega arith),
     )
@@ -98,7 +96,7 @@ try_both-open_case-requires t c =
 pub try_both-overflow_add-result-2 : goal.try_both-overflow_add-result-2
 try_both-overflow_add-result-2 t c =
     let f : First c.args.n c.args.costs.now c.args.rows.now c.args.a c.args.b c.args.rest c.if-first-rest.opened c.if-first-rest.room = elim c.if-first-rest.branch [
-        try_both-then-first-rest+then-is_leaf w ↦ first_leaf c.requires c.price-first.ensures w.if-first-rest.true w.if-is_leaf.true w.is_leaf.ensures w.opened-is w.room-is
+      | try_both-then-first-rest+then-is_leaf w ↦ first_leaf c.requires c.price-first.ensures w.if-first-rest.true w.if-is_leaf.true w.is_leaf.ensures w.opened-is w.room-is
       | try_both-then-first-rest+else-is_leaf w ↦ first_opens c.requires c.price-first.ensures w.if-first-rest.true w.of.ensures w.place-next.ensures w.open_case-opened.ensures w.opened-is w.room-is
       | try_both-else-first-rest w ↦ first_none c.requires c.price-first.ensures w.if-first-rest.false w.opened-is w.room-is
     ] in
@@ -113,7 +111,7 @@ try_both-overflow_add-result-2 t c =
 pub try_both-returns : goal.try_both-returns
 try_both-returns t c =
     let f : First c.args.n c.args.costs.now c.args.rows.now c.args.a c.args.b c.args.rest c.if-first-rest.opened c.if-first-rest.room = elim c.if-first-rest.branch [
-        try_both-then-first-rest+then-is_leaf w ↦ first_leaf c.requires c.price-first.ensures w.if-first-rest.true w.if-is_leaf.true w.is_leaf.ensures w.opened-is w.room-is
+      | try_both-then-first-rest+then-is_leaf w ↦ first_leaf c.requires c.price-first.ensures w.if-first-rest.true w.if-is_leaf.true w.is_leaf.ensures w.opened-is w.room-is
       | try_both-then-first-rest+else-is_leaf w ↦ first_opens c.requires c.price-first.ensures w.if-first-rest.true w.of.ensures w.place-next.ensures w.open_case-opened.ensures w.opened-is w.room-is
       | try_both-else-first-rest w ↦ first_none c.requires c.price-first.ensures w.if-first-rest.false w.opened-is w.room-is
     ] in

@@ -2,7 +2,7 @@
 use borrow.Author.Rules.{rules}
 use borrow.Author.Tests.{lt-ltb, le-ltb}
 use Rattle.tables.specs.Tables.{cost_in}
-use Rattle.cases.specs.Case.{Cheaper, as_numbered, turned}
+use Rattle.cases.specs.Case.{as_numbered, turned}
 use Rattle.cases.proofs.cheaper_way.Statement.{statement}
 use Rattle.cases.proofs.cheaper_way.Tie as tie
 

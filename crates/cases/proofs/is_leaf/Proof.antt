@@ -1,6 +1,5 @@
 -- `cases::is_leaf` meets its contract.
 use mathlib.Core.Bool.{false≢true}
-use native.Mathlib.Omega.{arith}
 use borrow.Author.Rules.{rules}
 use Rattle.cases.proofs.is_leaf.Statement.{statement}
 use Rattle.cases.proofs.is_leaf.Tie as tie

@@ -1,5 +1,4 @@
 -- `cases::settle` meets its contract: it tells what the walk settles with.
-use native.Mathlib.Omega.{arith}
 use borrow.Author.Rules.{rules}
 use Rattle.cases.proofs.Steps.{tells_settled, tells_not_settled}
 use Rattle.cases.proofs.settle.Statement.{statement}

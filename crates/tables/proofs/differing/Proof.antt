@@ -2,7 +2,6 @@
 use mathlib.Core.Path.{◌≡◌, subst}
 use mathlib.Core.Bool.{true, false}
 use mathlib.Core.List.{List}
-use mathlib.Core.Logic.{⊎_elim}
 use Prim.Native.Nat.{ℕ, ◌+◌, ◌-◌, ◌*◌, ◌≤◌, ◌<◌}
 use native.Mathlib.Omega.{arith}
 use borrow.Author.Tests.{eq-eqb, ne_eqb, lt-ltb, le-ltb}
@@ -79,7 +78,7 @@ loop-again c =
     let v : ℕ = turn.loop-v.v in
     let passed : Passed turn.loop-v.mask v (differ (cost_in costs) u) = turn.loop-v.invariant.2 in
     let put : Passed c.if-costs-u.mask (v + 1) (differ (cost_in costs) u) = elim c.if-costs-u.branch [
-        then-costs-u w ↦ rw w.mask-is (taken turn.loop-v.mask v (differ (cost_in costs) u) passed 32 (omega arith) (differs costs u v (omega arith) w.if-costs-u.true))
+      | then-costs-u w ↦ rw w.mask-is (taken turn.loop-v.mask v (differ (cost_in costs) u) passed 32 (omega arith) (differs costs u v (omega arith) w.if-costs-u.true))
       | else-costs-u w ↦ rw w.mask-is (over turn.loop-v.mask v (differ (cost_in costs) u) passed (differs-not costs u v (omega arith) w.if-costs-u.false))
     ] in
     (omega arith, omega arith, put)

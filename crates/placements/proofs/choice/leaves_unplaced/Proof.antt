@@ -1,6 +1,6 @@
 -- `choice::leaves_unplaced`: the outlets go by one after the other until one says yes.
 use mathlib.Core.Bool.{false≢true}
-use Prim.Native.Nat.{◌-◌, ◌≤◌}
+use Prim.Native.Nat.{◌-◌}
 use native.Mathlib.Omega.{arith}
 use borrow.Author.Rules.{rules}
 use Rattle.placements.proofs.Leaving.{leaves_here}

@@ -1,7 +1,6 @@
 -- `stand::next`: no outlet passed is free to stand next, so the first that is, is the smallest.
 use mathlib.Core.Path.{◌≡◌}
 use mathlib.Core.Bool.{false}
-use mathlib.Core.Logic.{⊎_elim}
 use Prim.Native.Nat.{ℕ, ◌-◌, ◌^◌, ◌≤◌, ◌<◌}
 use native.Mathlib.Omega.{arith}
 use borrow.Author.Count.{below_more}
@@ -60,8 +59,8 @@ loop-again c =
       omega arith,
       below_more _ _ c.loop-o.invariant.1
           (elim c.if-standing-o-eq0.branch [
-            then-standing-o-eq0+else-rows-o-eq0 w ↦ has_to_wait start.requires fits o w.if-rows-o-eq0.false
-          | else-standing-o-eq0 w ↦ stands_already start.requires fits o w.if-standing-o-eq0.false
+            | then-standing-o-eq0+else-rows-o-eq0 w ↦ has_to_wait start.requires fits o w.if-rows-o-eq0.false
+            | else-standing-o-eq0 w ↦ stands_already start.requires fits o w.if-standing-o-eq0.false
           ]),
     )
 

@@ -28,7 +28,7 @@ returns-2 : tie.Need-returns
 returns-2 c =
     let a = c.args in
     let e : at_end a.sheet.now a.place ≡ false = elim c.if-n-gt0.branch [
-        then-n-gt0+else-place-n w ↦ not_the_end a.sheet.now a.place w.if-place-n.false
+      | then-n-gt0+else-place-n w ↦ not_the_end a.sheet.now a.place w.if-place-n.false
       | else-n-gt0 w ↦ empty_sheet a.sheet.now a.place (omega arith)
     ] in
     next_is_at a.sheet.now a.place c.record_at.result e
