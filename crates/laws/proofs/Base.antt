@@ -19,7 +19,7 @@ use Rattle.laws.proofs.Terms.{Strict, Paid}
 use Rattle.laws.proofs.Tests.{never_both, and_both, or_cases, or_second}
 use Rattle.laws.proofs.Cross.{Equal, same_bins_equal, equal_same_bins, hoses_equal, cross_equal}
 use Rattle.laws.proofs.Cross.{Crossed, crossed, crossed_some, apart, apart_none, same_bins_both}
-use Rattle.laws.proofs.Blocks.{Movable, bare_first, bare_second, free, equal}
+use Rattle.laws.proofs.Moving.{Movable, bare_first, bare_second, free, equal}
 use Rattle.laws.proofs.Safe.{Safe, Extension, safe}
 use Rattle.laws.proofs.Placing.{unplaced_not, unplaced_back}
 

@@ -14,15 +14,8 @@ use Rattle.rules.specs.Sum.{sum, only_if}
 use Rattle.rules.specs.Crossing.{Profile, Cost, places, hoses, cross, right_of}
 use Rattle.rules.proofs.Sums.{sum_mono, sum-none, sum_scale, sum_upto, sum_rest}
 use Rattle.laws.proofs.Lists.{left_of, right_of_mono, right_of_scale}
+use Rattle.laws.proofs.Moving.{Movable, bare_first, bare_second, free, equal, Past}
 use Rattle.laws.proofs.Cross.{Equal, Parted, parted, cross_equal, cross_bare_first, cross_bare_second}
-
--- when two outlets may be brought past one another: the one has no hose, or the other has none, or their hoses do not cross while the one stands
--- left of the other, or they are equal at every place
-pub data Movable (p q : Profile) : Type 0 where
-  bare_first : hoses p ≡ 0 → Movable p q
-  bare_second : hoses q ≡ 0 → Movable p q
-  free : cross p q ≡ 0 → Movable p q
-  equal : Equal p q → Movable p q
 
 -- an outlet without hoses crosses nothing: so there are two cases
 free_or_equal : (p q : Profile) → Movable p q → (cross p q ≡ 0) ⊎ Equal p q
@@ -38,11 +31,6 @@ cheaper p q m = ⊎_elim (λ e. omega arith) (λ e. le_of_eq (cross_equal p q q 
 -- what it costs that one outlet stands left of another: their cross value
 abbrev pub cost_of : (ℕ → Profile) → Cost
 cost_of outlet a b = cross (outlet a) (outlet b)
-
--- a goes leftwards past X: what it then pays to X is at most what X paid to it;
--- or b goes rightwards past X: what X then pays to it is at most what it paid to X
-abbrev pub Past : Cost → ℕ → ℕ → List ℕ → Type 0
-Past c a b X = (right_of c a X ≤ left_of c a X) ⊎ (left_of c b X ≤ right_of c b X)
 
 -- the hoses of r right of place t (those left of it are `sum r t`)
 right_hoses : ℕ → Profile → ℕ

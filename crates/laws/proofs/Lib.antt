@@ -4,6 +4,7 @@ pub mod Promises
 pub mod Terms
 -- Why the base costs nothing: cross values, moving past a block (E), a safe relation (S), and that the base is one.
 pub mod Cross
+pub mod Moving
 pub mod Blocks
 pub mod Safe
 pub mod Base
@@ -15,6 +16,7 @@ pub mod Made
 pub mod Pairs
 pub mod Sound
 pub mod Complete
+pub mod Finds
 pub mod Bound
 -- What the walk need not look at: levels above the rest, outlets that are not on the rail, a case with nothing left to spend and a pair unplaced.
 pub mod Levels

@@ -17,7 +17,8 @@ use Rattle.laws.proofs.Lists.{left_of, right_of-append, right_of_into, right_of_
 use Rattle.laws.proofs.Orders.{order_rearranged}
 use Rattle.laws.proofs.Stands.{StandsCons, head, tail, StandsIn, first, across, second}
 use Rattle.laws.proofs.Stands.{stands-none, stands-cases, stands_head, stands_tail, stands_total, stands_parts, stands_whole}
-use Rattle.laws.proofs.Blocks.{Movable, Past, cost_of, cheaper, past}
+use Rattle.laws.proofs.Moving.{Movable, Past}
+use Rattle.laws.proofs.Blocks.{cost_of, cheaper, past}
 
 -- A relation that can be kept to without paying for it. (That each of its pairs is the cheaper way follows: `cheaper` of `Blocks.antt`.)
 pub record Safe (outlet : ℕ → Profile) (P : Relation) : Type 0 where

@@ -2,7 +2,7 @@
 -- finds has at most k. With completeness: the walk finds an order exactly if some order that extends its root has no more crossings than k.
 use mathlib.Core.Bool.{true}
 use mathlib.Core.List.{List}
-use mathlib.Core.Logic.{◌⊎◌, inl, inr, ◌↔◌}
+use mathlib.Core.Logic.{◌⊎◌, inl, inr}
 use mathlib.Core.Path.{◌≡◌, refl, ◌∙◌, subst}
 use Prim.Native.Nat.{ℕ, zero, suc, ◌+◌, ◌-◌, ◌≤◌, ◌<◌}
 use native.Mathlib.Omega.{arith}
@@ -11,13 +11,12 @@ use Rattle.rules.specs.Crossing.{Relation, Cost, IsOrder, crossings}
 use Rattle.rules.specs.Placement.{place, spent, price}
 use Rattle.rules.specs.Walk.{End, found, nothing, Outcome, or_else, unplaced, made, equal_costs}
 use Rattle.rules.specs.Walk.{settled, reach, trial, both_ways, branched, opened, walk}
-use Rattle.laws.proofs.Terms.{Strict, Extends, Paid}
+use Rattle.laws.proofs.Terms.{Strict, Extends}
 use Rattle.laws.proofs.Placing.{keeps, spent_placed, UnplacedPair, turned, strict_placed}
 use Rattle.laws.proofs.Made.{made_order, made_extends}
 use Rattle.laws.proofs.Pairs.{crossings_split, unplaced_equal}
 use Rattle.laws.proofs.Choice.{Opens, or_else_first, or_else_other, reach_opens, reach_not, settled-found}
 use Rattle.laws.proofs.Choice.{settled_not, Takes, pair_of, Settles, choice}
-use Rattle.laws.proofs.Complete.{walk_complete}
 
 -- an order of the outlets that extends R and has no more crossings than R has spent and the rest
 pub record Within (n : ℕ) (c : Cost) (R : Relation) (rest : ℕ) (l : List ℕ) : Type 0 where
@@ -110,11 +109,3 @@ walk_sound n c root k l is_strict e =
     let r = reach_sound n c (opened n c (suc k)) root (spent n c root) k l e in
     let w = sound n c (suc k) root (k - spent n c root) l is_strict r.1 in
     (w.is_order, w.extends, omega (arith, w.enough, r.0))
-
--- The walk finds an order exactly if some order that extends the root has no more crossings than k.
-pub walk_finds : (n : ℕ) (c : Cost) (root : Relation) (k : ℕ) → Strict root → Paid n c root
-    → ((l : List ℕ) × ((walk n c root k).end ≡ found l)) ↔ ((l : List ℕ) × IsOrder n l × Extends n root l × (crossings c l ≤ k))
-walk_finds n c root k is_strict paid = (
-  λ f. let w = walk_sound n c root k f.0 is_strict f.1 in (f.0, w.0, w.1, w.2),
-  λ w. walk_complete n c root k w.0 is_strict paid w.1 w.2 w.3,
-)
