@@ -5,8 +5,8 @@
  *   refused 8                            any other number (see rail.h)
  *
  * Build and run on x86-64, from the repository's top:
- *   rt staticlib rail
- *   gcc -std=c99 -Wall -Wextra -Iinclude -o target/order examples/host.c target/staticlib/librail.a
+ *   (cd crates/rail && rt lib)
+ *   gcc -std=c99 -Wall -Wextra -Iinclude -o target/order examples/host.c crates/rail/out/librail.a
  *   target/order examples/three.sheet
  */
 #include <inttypes.h>

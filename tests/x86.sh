@@ -25,8 +25,10 @@ fi
 # x86_cc WORDS...: compiles C99, warnings as errors.
 x86_cc() { x86_64-linux-gnu-gcc -static -std=c99 -Wall -Wextra -Werror "$@"; }
 
-# The archive, proved and built where it is missing or older than a file of the crates.
+# The archive, proved and built where it is missing or older than a file of the crates. (What the kit keeps in their folders out/ does not count.)
 archive=${RAIL_ARCHIVE:-target/staticlib/librail.a}
-if [ -z "${RAIL_ARCHIVE:-}" ] && { [ ! -e "$archive" ] || [ -n "$(find crates crates.txt -newer "$archive" -print -quit)" ]; }; then
-  rt staticlib rail > target/staticlib.log 2>&1 || { tail -n 20 target/staticlib.log; exit 1; }
+if [ -z "${RAIL_ARCHIVE:-}" ] && { [ ! -e "$archive" ] || [ -n "$(find crates crates.txt -name out -prune -o -newer "$archive" -type f -print -quit)" ]; }; then
+  mkdir -p target/staticlib
+  (cd crates/rail && rt lib) > target/staticlib.log 2>&1 || { tail -n 20 target/staticlib.log; exit 1; }
+  cp crates/rail/out/librail.a "$archive"
 fi
