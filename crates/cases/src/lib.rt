@@ -49,12 +49,14 @@ fn try_both(
     ensures { Tried n costs.now rows.now a b rest result room.new }
 {
     let mut opened = 2;
+    let mut next = Relation { rows: [0; 64] };
     let first = price(rows, costs, a, b, rest);
     if first.cost <= rest {
         if is_leaf(rows, rest, from, n, masks, first) {
             opened += 2;
         } else {
-            let next = Relation::of(rows).place(first);
+            next.take(rows);
+            next.put(first);
             opened += open_case(&next.rows, rest - first.cost, from, n, costs, masks, room);
         }
     }
@@ -68,7 +70,8 @@ fn try_both(
     if is_leaf(rows, rest, from, n, masks, other) {
         return opened + 2;
     }
-    let next = Relation::of(rows).place(other);
+    next.take(rows);
+    next.put(other);
     opened + open_case(&next.rows, rest - other.cost, from, n, costs, masks, room)
 }
 
