@@ -7,22 +7,23 @@ mod rails;
 mod tally;
 mod trial;
 
-use std::io;
+use std::io::{self, Write};
 use tally::Tally;
 
-fn line(rt: &impl Print, words: &str, n: u64) -> io::Result<()> {
-    println!(rt; "{words}{n}")
+fn line(rt: &impl Print, words: &[u8], n: u64) -> io::Result<()> {
+    io::writer(rt).write_all(words)?;
+    println!(rt; "{n}")
 }
 
 fn main(rt: HostRuntime) -> io::Result<()> {
     let all = rails::chosen(rails::circles(rails::small(Tally::none())));
-    line(&rt, "rails ", all.rails)?;
-    line(&rt, "searches ", all.searches)?;
-    line(&rt, "pairs counted wrong ", all.pairs)?;
-    line(&rt, "wrong yes or no ", all.answers)?;
-    line(&rt, "no order of the rail ", all.orders)?;
-    line(&rt, "crossings not the order's ", all.counts)?;
-    line(&rt, "crossings above the budget ", all.budgets)?;
-    line(&rt, "bytes written beside the order ", all.rooms)?;
-    line(&rt, "cases above the bound ", all.cases)
+    line(&rt, b"rails ", all.rails)?;
+    line(&rt, b"searches ", all.searches)?;
+    line(&rt, b"pairs counted wrong ", all.pairs)?;
+    line(&rt, b"wrong yes or no ", all.answers)?;
+    line(&rt, b"no order of the rail ", all.orders)?;
+    line(&rt, b"crossings not the order's ", all.counts)?;
+    line(&rt, b"crossings above the budget ", all.budgets)?;
+    line(&rt, b"bytes written beside the order ", all.rooms)?;
+    line(&rt, b"cases above the bound ", all.cases)
 }

@@ -1,41 +1,42 @@
 // What a line is made of: words, numbers, sets of bins and rooms, on standard output.
-use std::io;
+use std::io::{self, Write};
 
 // What a place of a lent room holds before a call: no order, no sheet and no outlet here has it.
 pub const BEFORE: u8 = 170;
 
 pub const SET_BEFORE: u64 = 170;
 
-pub fn words(rt: &impl Print, text: &str) -> io::Result<()> {
-    print!(rt; "{text}")
+pub fn words(rt: &impl Print, text: &[u8]) -> io::Result<()> {
+    io::writer(rt).write_all(text)
 }
 
 // Words, and the number after them.
-pub fn number(rt: &impl Print, text: &str, n: u64) -> io::Result<()> {
-    print!(rt; "{text}{n}")
+pub fn number(rt: &impl Print, text: &[u8], n: u64) -> io::Result<()> {
+    words(rt, text)?;
+    print!(rt; "{n}")
 }
 
 // What is asked of an operation that takes a job and a room.
 pub fn job(
     rt: &impl Print,
-    name: &str,
+    name: &[u8],
     bins: u64,
     outlets: usize,
     budget: u64,
     room: usize,
 ) -> io::Result<()> {
     words(rt, name)?;
-    number(rt, ": bins ", bins)?;
-    number(rt, ", outlets ", outlets as u64)?;
-    number(rt, ", budget ", budget)?;
-    number(rt, ", a room of ", room as u64)
+    number(rt, b": bins ", bins)?;
+    number(rt, b", outlets ", outlets as u64)?;
+    number(rt, b", budget ", budget)?;
+    number(rt, b", a room of ", room as u64)
 }
 
 fn byte(rt: &impl Print, value: u8) -> io::Result<()> {
     if value == BEFORE {
-        words(rt, " -")
+        words(rt, b" -")
     } else {
-        number(rt, " ", value as u64)
+        number(rt, b" ", value as u64)
     }
 }
 
@@ -49,18 +50,18 @@ pub fn bytes(rt: &impl Print, room: &[u8]) -> io::Result<()> {
 
 // A set by its bins, as `{ 0 2 3 }`.
 fn bins(rt: &impl Print, set: u64) -> io::Result<()> {
-    words(rt, " {")?;
+    words(rt, b" {")?;
     for bin in 0..64u64 {
         if set >> bin & 1 == 1 {
-            number(rt, " ", bin)?;
+            number(rt, b" ", bin)?;
         }
     }
-    words(rt, " }")
+    words(rt, b" }")
 }
 
 fn outlet(rt: &impl Print, set: u64) -> io::Result<()> {
     if set == SET_BEFORE {
-        words(rt, " -")
+        words(rt, b" -")
     } else {
         bins(rt, set)
     }
@@ -76,15 +77,15 @@ pub fn outlets(rt: &impl Print, room: &[u64]) -> io::Result<()> {
 
 // A room of bytes, to the line's end.
 pub fn room(rt: &impl Print, bytes_in_it: &[u8]) -> io::Result<()> {
-    words(rt, ", room")?;
+    words(rt, b", room")?;
     bytes(rt, bytes_in_it)?;
-    words(rt, "\n")
+    words(rt, b"\n")
 }
 
 // What a search answers.
 pub fn found(rt: &impl Print, answer: search::Found, bytes_in_room: &[u8]) -> io::Result<()> {
-    number(rt, ": number ", answer.number)?;
-    number(rt, ", crossings ", answer.crossings)?;
-    number(rt, ", cases ", answer.cases)?;
+    number(rt, b": number ", answer.number)?;
+    number(rt, b", crossings ", answer.crossings)?;
+    number(rt, b", cases ", answer.cases)?;
     room(rt, bytes_in_room)
 }

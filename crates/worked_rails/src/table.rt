@@ -4,31 +4,31 @@ use crate::print;
 use std::io;
 
 // A row: name, bins, outlets and budget; then what the search answers, in a room of four bytes.
-fn row(rt: &impl Print, name: &str, bins: u64, outlets: &[u64], budget: u64) -> io::Result<()> {
+fn row(rt: &impl Print, name: &[u8], bins: u64, outlets: &[u64], budget: u64) -> io::Result<()> {
     print::words(rt, name)?;
-    print::number(rt, ": bins ", bins)?;
-    print::words(rt, ", outlets")?;
+    print::number(rt, b": bins ", bins)?;
+    print::words(rt, b", outlets")?;
     print::outlets(rt, outlets)?;
-    print::number(rt, ", budget ", budget)?;
+    print::number(rt, b", budget ", budget)?;
     let mut room = [print::BEFORE; 4];
     let answer = search::search(bins, outlets, budget, &mut room);
     print::found(rt, answer, &room)
 }
 
 pub fn rows(rt: &impl Print) -> io::Result<()> {
-    row(rt, "empty", 0, &[], 0)?;
-    row(rt, "bare", 1, &[0, 0b1], 0)?;
-    row(rt, "swap", 2, &[0b10, 0b01], 0)?;
-    row(rt, "twin", 2, &[0b11, 0b11], 0)?;
-    row(rt, "twin", 2, &[0b11, 0b11], 1)?;
-    row(rt, "fork", 3, &[0b101, 0b010], 0)?;
-    row(rt, "fork", 3, &[0b101, 0b010], 1)?;
-    row(rt, "trident", 4, &[0b1101, 0b0010], 0)?;
-    row(rt, "trident", 4, &[0b1101, 0b0010], 1)?;
-    row(rt, "three", 4, &[0b1101, 0b0010, 0b1001], 3)?;
-    row(rt, "three", 4, &[0b1101, 0b0010, 0b1001], 4)?;
-    row(rt, "chain", 4, &[0b1101, 0b0010, 0b0100], 1)?;
-    row(rt, "chain", 4, &[0b1101, 0b0010, 0b0100], 2)?;
-    row(rt, "follow", 3, &[0b011, 0b101, 0b101], 2)?;
-    row(rt, "follow", 3, &[0b011, 0b101, 0b101], 3)
+    row(rt, b"empty", 0, &[], 0)?;
+    row(rt, b"bare", 1, &[0, 0b1], 0)?;
+    row(rt, b"swap", 2, &[0b10, 0b01], 0)?;
+    row(rt, b"twin", 2, &[0b11, 0b11], 0)?;
+    row(rt, b"twin", 2, &[0b11, 0b11], 1)?;
+    row(rt, b"fork", 3, &[0b101, 0b010], 0)?;
+    row(rt, b"fork", 3, &[0b101, 0b010], 1)?;
+    row(rt, b"trident", 4, &[0b1101, 0b0010], 0)?;
+    row(rt, b"trident", 4, &[0b1101, 0b0010], 1)?;
+    row(rt, b"three", 4, &[0b1101, 0b0010, 0b1001], 3)?;
+    row(rt, b"three", 4, &[0b1101, 0b0010, 0b1001], 4)?;
+    row(rt, b"chain", 4, &[0b1101, 0b0010, 0b0100], 1)?;
+    row(rt, b"chain", 4, &[0b1101, 0b0010, 0b0100], 2)?;
+    row(rt, b"follow", 3, &[0b011, 0b101, 0b101], 2)?;
+    row(rt, b"follow", 3, &[0b011, 0b101, 0b101], 3)
 }
