@@ -398,11 +398,10 @@ module _ {n : ℕ} {costs masks rows : List ℕ} {from a b rest cost left right 
   first_leaf within told waits t e =
       rw (t, e) (record { told = 2; counts = refl; trial = trial_leaf _ _ _ _ _ _ _ _ k p within (rw told at waits) _ })
 
-  pub first_opens : cost ≤ rest → {copy next : List ℕ} {r : ℕ} → copy ≡ rows
-      → ((x y : ℕ) → Brings copy x y left right → PlacedIn copy x y next)
+  pub first_opens : cost ≤ rest → {next : List ℕ} {r : ℕ} → ((x y : ℕ) → Brings rows x y left right → PlacedIn rows x y next)
       → Opened n costs next (rest - cost) r room → total ≡ 2 + r → end ≡ room → First n costs rows a b rest total end
-  first_opens within same places opens t e =
-      rw (t, e) (record { told = _; counts = refl; trial = trial_opens _ _ _ _ _ _ _ _ k p within _ (placed_copy same (p.brings within) places) _ _ opens })
+  first_opens within places opens t e =
+      rw (t, e) (record { told = _; counts = refl; trial = trial_opens _ _ _ _ _ _ _ _ k p within _ (places a b (p.brings within)) _ _ opens })
 
   pub first_none : rest < cost → total ≡ 2 → end ≡ room → First n costs rows a b rest total end
   first_none beyond t e = rw (t, e) (record { told = 0; counts = refl; trial = trial_not _ _ _ _ _ _ _ _ k p beyond _ })

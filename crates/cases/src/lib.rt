@@ -2,10 +2,10 @@
 // An answer is one number: twice the cases opened, and one more where an order was found; the rows that make it then stand in the room.
 #![tactic(auto)]
 
-ghost use Rattle.std.specs.Prelude.{◌≡◌, ◌+◌, ◌*◌, ◌≤◌, ◌<◌};
+ghost use Rattle.std.specs.Prelude.{ℕ, ◌≡◌, ◌+◌, ◌*◌, ◌≤◌, ◌<◌};
 ghost use Rattle.rules.specs.Walk.{chosen};
 ghost use Rattle.tables.specs.Tables.{cost_in, Costs};
-ghost use Rattle.placements.specs.Rows.{reads, Rows, Unplaced};
+ghost use Rattle.placements.specs.Rows.{reads, Rows, Unplaced, Brings, PlacedIn};
 ghost use Rattle.cases.specs.Case.{Case, CaseOf, Cheaper, Opened, Settled, Tried, PriceWithin, LeafIn};
 
 use placements::{Placement, Relation};
@@ -49,14 +49,12 @@ fn try_both(
     ensures { Tried n costs.now rows.now a b rest result room.new }
 {
     let mut opened = 2;
-    let mut next = Relation { rows: [0; 64] };
     let first = price(rows, costs, a, b, rest);
     if first.cost <= rest {
         if is_leaf(rows, rest, from, n, masks, first) {
             opened += 2;
         } else {
-            next.take(rows);
-            next.put(first);
+            let next = placed(rows, first);
             opened += open_case(&next.rows, rest - first.cost, from, n, costs, masks, room);
         }
     }
@@ -70,9 +68,17 @@ fn try_both(
     if is_leaf(rows, rest, from, n, masks, other) {
         return opened + 2;
     }
-    next.take(rows);
-    next.put(other);
+    let next = placed(rows, other);
     opened + open_case(&next.rows, rest - other.cost, from, n, costs, masks, room)
+}
+
+// What a placement leaves. A call of its own, since the relations that it hands on by value would else lie on the stack of every case that is open.
+#[inline(never)]
+fn placed(rows: &[u32; 64], placement: Placement) -> Relation
+    requires { Rows rows.now }
+    ensures { (a b : ℕ) → Brings rows.now a b placement.left placement.right → PlacedIn rows.now a b result.rows }
+{
+    Relation::of(rows).place(placement)
 }
 
 // Does the placement open a case that opens no other and finds nothing? It does where nothing is left to spend and a pair is left, since every

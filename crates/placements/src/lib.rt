@@ -31,25 +31,17 @@ pub struct Placement {
 }
 
 impl Relation {
-    // The relation that rows hold.
+    // The relation that rows hold. They are copied as two halves, each of which is a few moves of the machine's; all 64 at once would be a call.
     pub fn of(rows: &[u32; 64]) -> Relation
         requires { length rows.now ≡ 64 }
         ensures { result.rows ≡ rows.now }
     {
-        let mut copy = Relation { rows: [0; 64] };
-        copy.take(rows);
-        copy
-    }
-
-    // Holds these rows from now on. They are copied as two halves, each of which is a few moves of the machine's; all 64 at once would be a call.
-    pub fn take(&mut self, rows: &[u32; 64])
-        requires { length rows.now ≡ 64 }
-        ensures { self.new.rows ≡ rows.now }
-    {
+        let mut copy = [0; 64];
         for i in 0..32 {
-            self.rows[i] = rows[i];
-            self.rows[i + 32] = rows[i + 32];
+            copy[i] = rows[i];
+            copy[i + 32] = rows[i + 32];
         }
+        Relation { rows: copy }
     }
 
     // The base placements of a rail.
@@ -75,17 +67,9 @@ impl Relation {
         requires { Rows self.rows }
         ensures { (a b : ℕ) → Brings self.rows a b placement.left placement.right → PlacedIn self.rows a b result.rows }
     {
-        self.put(placement);
-        self
-    }
-
-    // The same where the relation stands: no copy of it is handed on, which the stack of a search would hold once a case.
-    pub fn put(&mut self, placement: Placement)
-        requires { Rows self.old.rows }
-        ensures { (a b : ℕ) → Brings self.old.rows a b placement.left placement.right → PlacedIn self.old.rows a b self.new.rows }
-    {
         closure::grow(&mut self.rows, placement.left, placement.right, 0);
         closure::grow(&mut self.rows, placement.right, placement.left, 1);
+        self
     }
 
     // The order made from left to right, into the front of a room.
