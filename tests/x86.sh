@@ -1,6 +1,7 @@
 # shellcheck shell=bash
 # For scripts that build C hosts over the archive, which is x86-64 code. Sourced from the repository's top.
-# On an Arm machine hosts are built by Debian's cross compiler and run under its emulator. RAIL_ARCHIVE names another archive to take.
+# On an Arm machine hosts are built by Debian's cross compiler and run under its emulator, as a processor that has what the archive is made for
+# (x86-64-v2). RAIL_ARCHIVE names another archive to take.
 
 # need COMMAND PACKAGE...: installs the packages where the command is missing.
 need() {
@@ -19,7 +20,7 @@ if [ "$(uname -m)" = x86_64 ]; then
 else
   need x86_64-linux-gnu-gcc gcc-x86-64-linux-gnu libc6-dev-amd64-cross
   need qemu-x86_64 qemu-user
-  x86_run() { qemu-x86_64 "$@"; }
+  x86_run() { qemu-x86_64 -cpu Nehalem "$@"; }
 fi
 
 # x86_cc WORDS...: compiles C99, warnings as errors.

@@ -18,7 +18,7 @@ use Rattle.laws.proofs.Leaf.{leaf}
 use Rattle.laws.proofs.Bound.{bound, grows, values}
 use Rattle.tables.specs.Tables.{cost_in}
 use Rattle.placements.specs.Rows.{reads, Rows, Unplaced, Brings, PlacedIn, Within, Priced, ChosenIn, PartnerIn, EqualWithin}
-use Rattle.cases.specs.Case.{Case, CaseOf, Cheaper, as_numbered, turned, found_one, told, Tells, Opened, Settled, Tried, PriceWithin, LeafIn}
+use Rattle.cases.specs.Case.{Case, CaseOf, Cheaper, as_numbered, turned, found_one, told, Tells, Opened, Settled, Tried, Trial, PriceWithin, Paying, LeafIn}
 
 -- ---- outcomes as numbers
 
@@ -101,11 +101,6 @@ unfolding told
 small n costs masks rows from rest k r room o =
     omega
     (arith, (o.tells (suc rest) (omega arith)).number, bound n (cost_in costs) (suc rest) (reads rows) rest k.paid, grows (rest + 3) 33 (omega (arith, k.little)), values.5, at_most_one (opened n (cost_in costs) (suc rest) (reads rows) rest).end)
-
--- What one way comes to: its trial's outcome is told.
-pub record Trial (n : ℕ) (costs rows : List ℕ) (a b rest r : ℕ) (room : List ℕ) : Type 0 where
-  pub tells : (m : ℕ) → rest ≤ m → Tells n costs (trial n (cost_in costs) (opened n (cost_in costs) m) (reads rows) rest a b) r room
-  pub small : r < 2 ^ 23
 
 module _ (n : ℕ) (costs masks rows : List ℕ) (from a b rest : ℕ) (k : CaseOf n costs masks rows from a b rest) where
   abbrev c : Cost
@@ -398,10 +393,8 @@ module _ {n : ℕ} {costs masks rows : List ℕ} {from a b rest cost left right 
   first_leaf within told waits t e =
       rw (t, e) (record { told = 2; counts = refl; trial = trial_leaf _ _ _ _ _ _ _ _ k p within (rw told at waits) _ })
 
-  pub first_opens : cost ≤ rest → {next : List ℕ} {r : ℕ} → ((x y : ℕ) → Brings rows x y left right → PlacedIn rows x y next)
-      → Opened n costs next (rest - cost) r room → total ≡ 2 + r → end ≡ room → First n costs rows a b rest total end
-  first_opens within places opens t e =
-      rw (t, e) (record { told = _; counts = refl; trial = trial_opens _ _ _ _ _ _ _ _ k p within _ (places a b (p.brings within)) _ _ opens })
+  pub first_opens : {r : ℕ} → Trial n costs rows a b rest r room → total ≡ 2 + r → end ≡ room → First n costs rows a b rest total end
+  first_opens way t e = rw (t, e) (record { told = _; counts = refl; trial = way })
 
   pub first_none : rest < cost → total ≡ 2 → end ≡ room → First n costs rows a b rest total end
   first_none beyond t e = rw (t, e) (record { told = 0; counts = refl; trial = trial_not _ _ _ _ _ _ _ _ k p beyond _ })

@@ -1,7 +1,7 @@
 -- An opened case as code has it: its rows, its rest, the tables of the rail; and what it answers: the walk's cases and end of the rules.
-use Rattle.std.specs.Prelude.{Bool, true, false, List, ◌≡◌, ℕ, ◌+◌, ◌*◌, ◌<◌, ◌≤◌, ltb}
+use Rattle.std.specs.Prelude.{Bool, true, false, List, ◌≡◌, ℕ, ◌+◌, ◌*◌, ◌^◌, ◌<◌, ◌≤◌, ltb}
 use Rattle.rules.specs.Crossing.{Cost}
-use Rattle.rules.specs.Walk.{End, found, nothing, Outcome, counted, made, partner, chosen, settled, both_ways, opened}
+use Rattle.rules.specs.Walk.{End, found, nothing, Outcome, counted, made, partner, chosen, settled, trial, both_ways, opened}
 use Rattle.rules.specs.Placement.{place, price}
 use Rattle.laws.proofs.Terms.{Paid}
 use Rattle.tables.specs.Tables.{cost_in, Costs, Masks}
@@ -63,11 +63,22 @@ pub record Settled (n : ℕ) (costs rows : List ℕ) (rest r : ℕ) (room : List
 pub record Tried (n : ℕ) (costs rows : List ℕ) (a b rest r : ℕ) (room : List ℕ) : Type 0 where
   pub tells : (m : ℕ) → rest ≤ m → Tells n costs (counted (both_ways n (cost_in costs) (opened n (cost_in costs) m) (reads rows) rest a b)) r room
 
+-- What one way comes to: its trial's outcome is told.
+pub record Trial (n : ℕ) (costs rows : List ℕ) (a b rest r : ℕ) (room : List ℕ) : Type 0 where
+  pub tells : (m : ℕ) → rest ≤ m → Tells n costs (trial n (cost_in costs) (opened n (cost_in costs) m) (reads rows) rest a b) r room
+  pub small : r < 2 ^ 23
+
 -- what placing a left of b takes from the rest, among any n outlets that the rows are of, and whom it brings; or something above the rest where it takes more
 pub record PriceWithin (costs rows : List ℕ) (a b rest cost left right : ℕ) : Type 0 where
   pub within : (n : ℕ) → n ≤ 32 → Within n rows → a < n → b < n → cost ≤ rest → cost ≡ price n (cost_in costs) (reads rows) (place (reads rows) a b)
   pub beyond : (n : ℕ) → n ≤ 32 → Within n rows → a < n → b < n → rest < cost → rest < price n (cost_in costs) (reads rows) (place (reads rows) a b)
   pub brings : cost ≤ rest → Brings rows a b left right
+
+-- a placement of the pair of a case, within its rest
+pub record Paying (n : ℕ) (costs masks rows : List ℕ) (from a b rest cost left right : ℕ) : Type 0 where
+  pub taken : CaseOf n costs masks rows from a b rest
+  pub priced : PriceWithin costs rows a b rest cost left right
+  pub within : cost ≤ rest
 
 -- where the answer is yes, a placement takes the whole rest and leaves a pair unplaced
 pub record LeafIn (n : ℕ) (masks rows : List ℕ) (rest cost left right : ℕ) (answer : Bool) : Type 0 where

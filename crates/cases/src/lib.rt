@@ -5,8 +5,8 @@
 ghost use Rattle.std.specs.Prelude.{ℕ, ◌≡◌, ◌+◌, ◌*◌, ◌≤◌, ◌<◌};
 ghost use Rattle.rules.specs.Walk.{chosen};
 ghost use Rattle.tables.specs.Tables.{cost_in, Costs};
-ghost use Rattle.placements.specs.Rows.{reads, Rows, Unplaced, Brings, PlacedIn};
-ghost use Rattle.cases.specs.Case.{Case, CaseOf, Cheaper, Opened, Settled, Tried, PriceWithin, LeafIn};
+ghost use Rattle.placements.specs.Rows.{reads, Rows, Unplaced};
+ghost use Rattle.cases.specs.Case.{Case, CaseOf, Cheaper, Opened, Settled, Tried, Trial, PriceWithin, Paying, LeafIn};
 
 use placements::{Placement, Relation};
 
@@ -54,8 +54,7 @@ fn try_both(
         if is_leaf(rows, rest, from, n, masks, first) {
             opened += 2;
         } else {
-            let next = placed(rows, first);
-            opened += open_case(&next.rows, rest - first.cost, from, n, costs, masks, room);
+            opened += trial(rows, rest, from, n, costs, masks, first, room);
         }
     }
     if opened % 2 == 1 {
@@ -68,17 +67,36 @@ fn try_both(
     if is_leaf(rows, rest, from, n, masks, other) {
         return opened + 2;
     }
-    let next = placed(rows, other);
-    opened + open_case(&next.rows, rest - other.cost, from, n, costs, masks, room)
+    opened + trial(rows, rest, from, n, costs, masks, other, room)
 }
 
-// What a placement leaves. A call of its own, since the relations that it hands on by value would else lie on the stack of every case that is open.
+// Opens the case that a placement within the rest leaves. A call of its own, so that the relations that are handed on by value here lie on the stack
+// once a case, and take nothing of a trial that opens none.
+#[cycle(open_case_try_both)]
 #[inline(never)]
-fn placed(rows: &[u32; 64], placement: Placement) -> Relation
-    requires { Rows rows.now }
-    ensures { (a b : ℕ) → Brings rows.now a b placement.left placement.right → PlacedIn rows.now a b result.rows }
+fn trial(
+    rows: &[u32; 64],
+    rest: u64,
+    from: usize,
+    n: usize,
+    costs: &[u16; 1024],
+    masks: &[u32; 64],
+    placement: Placement,
+    room: &mut [u32; 64],
+) -> u64
+    requires { (a : ℕ) × (b : ℕ) × Paying n costs.now masks.now rows.now from a b rest placement.cost placement.left placement.right }
+    ensures { (a b : ℕ) → Paying n costs.now masks.now rows.now from a b rest placement.cost placement.left placement.right → Trial n costs.now rows.now a b rest result room.new }
 {
-    Relation::of(rows).place(placement)
+    let next = Relation::of(rows).place(placement);
+    open_case(
+        &next.rows,
+        rest - placement.cost,
+        from,
+        n,
+        costs,
+        masks,
+        room,
+    )
 }
 
 // Does the placement open a case that opens no other and finds nothing? It does where nothing is left to spend and a pair is left, since every

@@ -1,7 +1,7 @@
 -- Each answer is a law of `Steps`, at the case that was opened or at the pair that it tries.
 use Rattle.std.proofs.Common.{◌∙◌, sym, arith}
 use Rattle.cases.proofs.Steps.{chosen_is, chosen_below, taken, cheaper_taken, tries_cheaper, settles}
-use Rattle.cases.proofs.Steps.{other_way, next_case, falls, small, trial_opens, trial_leaf, trial_not, First, first_leaf, first_opens, first_none, tried_first, tried_other, tried_neither}
+use Rattle.cases.proofs.Steps.{other_way, placed_copy, next_case, falls, trial_opens, trial_leaf, trial_not, First, first_leaf, first_opens, first_none, tried_first, tried_other, tried_neither}
 use Rattle.cases.proofs.+open_case_try_both.Goals as goal
 use Rattle.cases.proofs.+open_case_try_both.Goals.{try_both-then-first-rest+then-is_leaf, try_both-then-first-rest+else-is_leaf, try_both-else-first-rest}
 
@@ -32,26 +32,20 @@ open_case-returns t c =
 
 -- ---- trying its two placements
 
-pub try_both-open_case-opened-requires : goal.try_both-open_case-opened-requires
-try_both-open_case-opened-requires t c = (
-  omega (arith, c.decreases, falls _ _ _ _ _ _ _ _ c.requires c.price-first.ensures c.if-first-rest.true),
-  next_case _ _ _ _ _ _ _ _ c.requires _ (c.placed-next.ensures _ _ (c.price-first.ensures.brings c.if-first-rest.true)) _ (omega arith),
-)
+pub try_both-trial-opened-requires : goal.try_both-trial-opened-requires
+try_both-trial-opened-requires t c =
+    (omega (arith, c.decreases), (c.args.a, c.args.b, record { taken = c.requires; priced = c.price-first.ensures; within = c.if-first-rest.true }))
 
 pub try_both-overflow_add-opened-else-is_leaf : goal.try_both-overflow_add-opened-else-is_leaf
 try_both-overflow_add-opened-else-is_leaf t c =
-    omega (
-      arith,
-      small _ _ _ _ _ _
-          (next_case _ _ _ _ _ _ _ _ c.requires _ (c.placed-next.ensures _ _ (c.price-first.ensures.brings c.if-first-rest.true)) _ (omega arith))
-          _ _ c.open_case-opened.ensures,
-    )
+    omega (arith, (c.trial-opened.ensures _ _ (record { taken = c.requires; priced = c.price-first.ensures; within = c.if-first-rest.true })).small)
 
 pub try_both-returns-then-opened-eq1 : goal.try_both-returns-then-opened-eq1
 try_both-returns-then-opened-eq1 t c =
     let f : First c.args.n c.args.costs.now c.args.rows.now c.args.a c.args.b c.args.rest c.if-first-rest.opened c.if-first-rest.room = elim c.if-first-rest.branch [
       | try_both-then-first-rest+then-is_leaf w ↦ first_leaf c.requires c.price-first.ensures w.if-first-rest.true w.if-is_leaf.true w.is_leaf.ensures w.opened-is w.room-is
-      | try_both-then-first-rest+else-is_leaf w ↦ first_opens c.requires c.price-first.ensures w.if-first-rest.true w.placed-next.ensures w.open_case-opened.ensures w.opened-is w.room-is
+      | try_both-then-first-rest+else-is_leaf w ↦
+          first_opens c.requires c.price-first.ensures (w.trial-opened.ensures _ _ (record { taken = c.requires; priced = c.price-first.ensures; within = w.if-first-rest.true })) w.opened-is w.room-is
       | try_both-else-first-rest w ↦ first_none c.requires c.price-first.ensures w.if-first-rest.false w.opened-is w.room-is
     ] in
     tried_first f c.if-opened-eq1.true
@@ -60,7 +54,8 @@ pub try_both-returns-then-rest-other : goal.try_both-returns-then-rest-other
 try_both-returns-then-rest-other t c =
     let f : First c.args.n c.args.costs.now c.args.rows.now c.args.a c.args.b c.args.rest c.if-first-rest.opened c.if-first-rest.room = elim c.if-first-rest.branch [
       | try_both-then-first-rest+then-is_leaf w ↦ first_leaf c.requires c.price-first.ensures w.if-first-rest.true w.if-is_leaf.true w.is_leaf.ensures w.opened-is w.room-is
-      | try_both-then-first-rest+else-is_leaf w ↦ first_opens c.requires c.price-first.ensures w.if-first-rest.true w.placed-next.ensures w.open_case-opened.ensures w.opened-is w.room-is
+      | try_both-then-first-rest+else-is_leaf w ↦
+          first_opens c.requires c.price-first.ensures (w.trial-opened.ensures _ _ (record { taken = c.requires; priced = c.price-first.ensures; within = w.if-first-rest.true })) w.opened-is w.room-is
       | try_both-else-first-rest w ↦ first_none c.requires c.price-first.ensures w.if-first-rest.false w.opened-is w.room-is
     ] in
     let k = other_way _ _ _ _ _ _ _ _ c.requires in
@@ -70,7 +65,8 @@ pub try_both-overflow_add-result : goal.try_both-overflow_add-result
 try_both-overflow_add-result t c =
     let f : First c.args.n c.args.costs.now c.args.rows.now c.args.a c.args.b c.args.rest c.if-first-rest.opened c.if-first-rest.room = elim c.if-first-rest.branch [
       | try_both-then-first-rest+then-is_leaf w ↦ first_leaf c.requires c.price-first.ensures w.if-first-rest.true w.if-is_leaf.true w.is_leaf.ensures w.opened-is w.room-is
-      | try_both-then-first-rest+else-is_leaf w ↦ first_opens c.requires c.price-first.ensures w.if-first-rest.true w.placed-next.ensures w.open_case-opened.ensures w.opened-is w.room-is
+      | try_both-then-first-rest+else-is_leaf w ↦
+          first_opens c.requires c.price-first.ensures (w.trial-opened.ensures _ _ (record { taken = c.requires; priced = c.price-first.ensures; within = w.if-first-rest.true })) w.opened-is w.room-is
       | try_both-else-first-rest w ↦ first_none c.requires c.price-first.ensures w.if-first-rest.false w.opened-is w.room-is
     ] in
     omega (arith, f.counts, f.trial.small)
@@ -79,42 +75,50 @@ pub try_both-returns-then-is_leaf-2 : goal.try_both-returns-then-is_leaf-2
 try_both-returns-then-is_leaf-2 t c =
     let f : First c.args.n c.args.costs.now c.args.rows.now c.args.a c.args.b c.args.rest c.if-first-rest.opened c.if-first-rest.room = elim c.if-first-rest.branch [
       | try_both-then-first-rest+then-is_leaf w ↦ first_leaf c.requires c.price-first.ensures w.if-first-rest.true w.if-is_leaf.true w.is_leaf.ensures w.opened-is w.room-is
-      | try_both-then-first-rest+else-is_leaf w ↦ first_opens c.requires c.price-first.ensures w.if-first-rest.true w.placed-next.ensures w.open_case-opened.ensures w.opened-is w.room-is
+      | try_both-then-first-rest+else-is_leaf w ↦
+          first_opens c.requires c.price-first.ensures (w.trial-opened.ensures _ _ (record { taken = c.requires; priced = c.price-first.ensures; within = w.if-first-rest.true })) w.opened-is w.room-is
       | try_both-else-first-rest w ↦ first_none c.requires c.price-first.ensures w.if-first-rest.false w.opened-is w.room-is
     ] in
     let k = other_way _ _ _ _ _ _ _ _ c.requires in
     tried_other f c.if-opened-eq1.false
     (trial_leaf _ _ _ _ _ _ _ _ k c.price-other.ensures c.if-rest-other.false (rw c.if-is_leaf-2.true at c.is_leaf-2.ensures) _)
 
-pub try_both-open_case-requires : goal.try_both-open_case-requires
-try_both-open_case-requires t c =
-    let k = other_way _ _ _ _ _ _ _ _ c.requires in (
-      omega (arith, c.decreases, falls _ _ _ _ _ _ _ _ k c.price-other.ensures c.if-rest-other.false),
-      next_case _ _ _ _ _ _ _ _ k _ (c.placed-next-2.ensures _ _ (c.price-other.ensures.brings c.if-rest-other.false)) _ (omega arith),
-    )
+pub try_both-trial-requires : goal.try_both-trial-requires
+try_both-trial-requires t c =
+    let k = other_way _ _ _ _ _ _ _ _ c.requires in
+    (omega (arith, c.decreases), (c.args.b, c.args.a, record { taken = k; priced = c.price-other.ensures; within = c.if-rest-other.false }))
 
 pub try_both-overflow_add-result-2 : goal.try_both-overflow_add-result-2
 try_both-overflow_add-result-2 t c =
     let f : First c.args.n c.args.costs.now c.args.rows.now c.args.a c.args.b c.args.rest c.if-first-rest.opened c.if-first-rest.room = elim c.if-first-rest.branch [
       | try_both-then-first-rest+then-is_leaf w ↦ first_leaf c.requires c.price-first.ensures w.if-first-rest.true w.if-is_leaf.true w.is_leaf.ensures w.opened-is w.room-is
-      | try_both-then-first-rest+else-is_leaf w ↦ first_opens c.requires c.price-first.ensures w.if-first-rest.true w.placed-next.ensures w.open_case-opened.ensures w.opened-is w.room-is
+      | try_both-then-first-rest+else-is_leaf w ↦
+          first_opens c.requires c.price-first.ensures (w.trial-opened.ensures _ _ (record { taken = c.requires; priced = c.price-first.ensures; within = w.if-first-rest.true })) w.opened-is w.room-is
       | try_both-else-first-rest w ↦ first_none c.requires c.price-first.ensures w.if-first-rest.false w.opened-is w.room-is
     ] in
     let k = other_way _ _ _ _ _ _ _ _ c.requires in
-    omega (
-      arith,
-      f.counts,
-      f.trial.small,
-      small _ _ _ _ _ _ (next_case _ _ _ _ _ _ _ _ k _ (c.placed-next-2.ensures _ _ (c.price-other.ensures.brings c.if-rest-other.false)) _ (omega arith)) _ _ c.open_case.ensures,
-    )
+    omega (arith, f.counts, f.trial.small, (c.trial.ensures _ _ (record { taken = k; priced = c.price-other.ensures; within = c.if-rest-other.false })).small)
 
 pub try_both-returns : goal.try_both-returns
 try_both-returns t c =
     let f : First c.args.n c.args.costs.now c.args.rows.now c.args.a c.args.b c.args.rest c.if-first-rest.opened c.if-first-rest.room = elim c.if-first-rest.branch [
       | try_both-then-first-rest+then-is_leaf w ↦ first_leaf c.requires c.price-first.ensures w.if-first-rest.true w.if-is_leaf.true w.is_leaf.ensures w.opened-is w.room-is
-      | try_both-then-first-rest+else-is_leaf w ↦ first_opens c.requires c.price-first.ensures w.if-first-rest.true w.placed-next.ensures w.open_case-opened.ensures w.opened-is w.room-is
+      | try_both-then-first-rest+else-is_leaf w ↦
+          first_opens c.requires c.price-first.ensures (w.trial-opened.ensures _ _ (record { taken = c.requires; priced = c.price-first.ensures; within = w.if-first-rest.true })) w.opened-is w.room-is
       | try_both-else-first-rest w ↦ first_none c.requires c.price-first.ensures w.if-first-rest.false w.opened-is w.room-is
     ] in
     let k = other_way _ _ _ _ _ _ _ _ c.requires in
-    tried_other f c.if-opened-eq1.false
-    (trial_opens _ _ _ _ _ _ _ _ k c.price-other.ensures c.if-rest-other.false _ (c.placed-next-2.ensures _ _ (c.price-other.ensures.brings c.if-rest-other.false)) _ _ c.open_case.ensures)
+    tried_other f c.if-opened-eq1.false (c.trial.ensures _ _ (record { taken = k; priced = c.price-other.ensures; within = c.if-rest-other.false }))
+
+-- ---- the trial of one
+
+pub trial-open_case-requires : goal.trial-open_case-requires
+trial-open_case-requires t c =
+    let p = c.requires.2 in (
+      omega (arith, c.decreases, falls _ _ _ _ _ _ _ _ p.taken p.priced p.within),
+      next_case _ _ _ _ _ _ _ _ p.taken _ (placed_copy c.of.ensures (p.priced.brings p.within) c.place-next.ensures) _ (omega arith),
+    )
+
+pub trial-returns : goal.trial-returns
+trial-returns t c a b p =
+    trial_opens _ _ _ _ _ _ _ _ p.taken p.priced p.within _ (placed_copy c.of.ensures (p.priced.brings p.within) c.place-next.ensures) _ _ c.open_case.ensures
