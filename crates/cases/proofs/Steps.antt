@@ -18,7 +18,7 @@ use Rattle.laws.proofs.Leaf.{leaf}
 use Rattle.laws.proofs.Bound.{bound, grows, values}
 use Rattle.tables.specs.Tables.{cost_in}
 use Rattle.placements.specs.Rows.{reads, Rows, Unplaced, Brings, PlacedIn, Within, Priced, ChosenIn, PartnerIn, EqualWithin}
-use Rattle.cases.specs.Case.{Case, CaseOf, Cheaper, as_numbered, turned, found_one, told, Tells, Opened, Settled, Tried, Trial, PriceWithin, Paying, LeafIn}
+use Rattle.cases.specs.Case.{Case, CaseOf, Cheaper, as_numbered, turned, found_one, told, Tells, Opened, Settled, Tried, Trial, PriceWithin, LeafIn}
 
 -- ---- outcomes as numbers
 
