@@ -1,5 +1,5 @@
 -- The laws of cross values: what cross(a, b) = 0 says of the places of two outlets' hoses, what it says that both values are 0, and what the two
--- values add up to. No law looks inside a profile; one, `sameBins-both`, asks that a place has at most one hose.
+-- values add up to. No law looks inside a profile; one, `same_bins_both`, asks that a place has at most one hose.
 use mathlib.Core.Path.{◌≡◌, ap, ap₂}
 use mathlib.Core.Bool.{true}
 use mathlib.Core.Logic.{◌⊎◌, inl, inr}

@@ -119,7 +119,7 @@ first_in t (a ∷ l) = go (either (t a)) (first_in t l)
 
 -- What an outlet pays
 
--- what all of l pay for standing left of a: `rightOf` with the cost turned round
+-- what all of l pay for standing left of a: `right_of` with the cost turned round
 unfoldable pub left_of : Cost → ℕ → List ℕ → ℕ
 left_of c a l = right_of (λ u v. c v u) a l
 

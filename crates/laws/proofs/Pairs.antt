@@ -1,5 +1,5 @@
 -- Crossings as a sum over pairs: an order's crossings are what its relation 'stands left of' costs. For an order that extends R they are what R has
--- spent, and what the pairs that R leaves unplaced cost as they stand; where each of these costs the same either way, that is `equalCosts`.
+-- spent, and what the pairs that R leaves unplaced cost as they stand; where each of these costs the same either way, that is `equal_costs`.
 use mathlib.Core.Bool.{Bool, true, false, not, ◌&&◌, ◌||◌, and-true, and-false}
 use mathlib.Core.List.{List, [], ◌∷◌}
 use mathlib.Core.Logic.{◌⊎◌, inl, inr}

@@ -1,4 +1,4 @@
--- Document 01 from its bytes to its lines: the sheet of three with k = 4, and the sheet of a rail without outlets. By `oneLine` no other line fits either.
+-- Document 01 from its bytes to its lines: the sheet of three with k = 4, and the sheet of a rail without outlets. By `one_line` no other line fits either.
 use mathlib.Core.Path.{◌≡◌, refl}
 use mathlib.Core.Bool.{false}
 use mathlib.Core.List.{List, [], ◌∷◌, ◌++◌}

@@ -19,13 +19,13 @@ use Rattle.hoses.proofs.pair.Tie as tie
 to_come : ℕ → ℕ → ℕ
 to_come rest b = sum (λ x. profile rest x * sum (profile b) x) 64
 
-toCome-all : (a b : ℕ) → to_come a b ≡ cross (profile a) (profile b)
+to_come_all : (a b : ℕ) → to_come a b ≡ cross (profile a) (profile b)
 unfolding to_come cross places
-toCome-all a b = omega arith
+to_come_all a b = omega arith
 
-toCome-none : (b : ℕ) → to_come 0 b ≡ 0
+to_come_none : (b : ℕ) → to_come 0 b ≡ 0
 unfolding to_come profile
-toCome-none b = sum-none _ 64 (λ x l. ap (λ (n : ℕ). n * sum (profile b) x) (bit-none x) ∙ zero-mul (sum (profile b) x))
+to_come_none b = sum-none _ 64 (λ x l. ap (λ (n : ℕ). n * sum (profile b) x) (bit-none x) ∙ zero-mul (sum (profile b) x))
 
 -- the lowest one adds the hoses of b further left, and the others remain
 to_come_step : (rest b : ℕ) → 0 < rest → rest < 2 ^ 64 → to_come rest b ≡ sum (profile b) (count_trailing_zeros 64 rest) + to_come (bit_and rest (rest - 1)) b
@@ -47,7 +47,7 @@ module _ (c : tie.In-loop-rest invariant-loop decreases-loop) where
   within = omega arith
 
 loop-holds : tie.Need-loop-rest-init invariant-loop decreases-loop
-loop-holds c = (omega arith, omega (arith, toCome-all c.args.a c.args.b))
+loop-holds c = (omega arith, omega (arith, to_come_all c.args.a c.args.b))
 
 cast-further-left : tie.Need-overflow_cast-rest invariant-loop decreases-loop
 cast-further-left c = omega (arith, lowest_within 64 c.before.loop-rest.rest (some c) (within c))
@@ -88,7 +88,7 @@ returns : tie.Need-returns invariant-loop decreases-loop
 returns c =
     let done : c.before.loop-rest.rest ≡ 0 = omega arith in
     is_paired c.before.before.args.a c.before.before.args.b c.before.loop-rest.crossings
-    (omega (arith, ap (λ (m : ℕ). to_come m c.before.before.args.b) done, toCome-none c.before.before.args.b))
+    (omega (arith, ap (λ (m : ℕ). to_come m c.before.before.args.b) done, to_come_none c.before.before.args.b))
 
 pub pair_spec : {M : Type 1} → statement M
 pair_spec =
