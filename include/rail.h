@@ -42,6 +42,7 @@
  *
  * No call allocates, keeps state, blocks, or asks anything of the operating system: any number of threads may call at once.
  * No call takes more than RAIL_STACK bytes of stack. The figure is measured (tests/c/stack.c), not proved.
+ * The archive is code for x86-64-v2, that is x86-64 with SSE4.2 and POPCNT.
  */
 #ifndef RAIL_H
 #define RAIL_H
@@ -55,7 +56,7 @@ extern "C" {
 
 #define RAIL_UNWRITTEN 255
 
-/* Measured: rail_search took 22,104 bytes at most, every other function less than 400. `bash tests/c/run` fails where a call takes more than this. */
+/* Measured: rail_search took 15,864 bytes at most, every other function less than 400. `bash tests/c/run` fails where a call takes more than this. */
 #define RAIL_STACK 24576
 
 typedef struct { uint64_t number, crossings; }               rail_counted;
