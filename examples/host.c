@@ -6,8 +6,8 @@
  *
  * Build and run on x86-64, from the repository's top:
  *   (cd crates/rail && rt lib)
- *   gcc -std=c99 -Wall -Wextra -Iinclude -o target/order examples/host.c crates/rail/out/librail.a
- *   target/order examples/three.sheet
+ *   gcc -std=c99 -Wall -Wextra -Iinclude -o order_host examples/host.c crates/rail/out/librail.a
+ *   ./order_host examples/three.sheet
  */
 #include <inttypes.h>
 #include <stdio.h>

@@ -1,4 +1,5 @@
-// The cases of the walk: opening a case, and trying the two placements of the pair that it takes, call one another. The rest falls with each case.
+// The cases of the walk: opening a case, trying the two placements of the pair that it takes, and the trial of one call one another. The rest falls
+// with each case.
 // An answer is one number: twice the cases opened, and one more where an order was found; the rows that make it then stand in the room.
 #![tactic(auto)]
 

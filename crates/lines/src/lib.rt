@@ -7,6 +7,9 @@ ghost use Rattle.std.proofs.lemmas.List.Edits.{sets};
 ghost use Rattle.rules.specs.Line.{decimal, order_line, no_order_line, refused_line, answer_line, LineMade};
 ghost use Rattle.lines.specs.Parts.{outlets_part, last_part};
 
+// the number of a search that found no order
+const NO_ORDER: u64 = 6;
+
 // A word, or what else is written as it stands.
 fn put_word(room: &mut [u8], at: usize, word: &[u8]) -> usize
     requires { at + length word.now ≤ length room.old }
@@ -106,7 +109,7 @@ fn answer_line(room: &mut [u8], number: u64, order: &[u8], crossings: u64, cases
     if number == 0 {
         return order_line(room, order, crossings, cases);
     }
-    if number == 6 {
+    if number == NO_ORDER {
         return no_order_line(room, cases);
     }
     refused_line(room, number)

@@ -1,4 +1,4 @@
--- The limits, each named once: how large a job may be, and the number that stands for a budget that is not written.
+-- Names for the limits: how large a job may be, and the number that stands for a budget that is not written. The pages below write the numbers.
 use Rattle.std.specs.Prelude.{ℕ}
 
 abbrev pub most_bins : ℕ
