@@ -263,21 +263,6 @@ module _ (n : ℕ) (costs masks rows : List ℕ) (from rest : ℕ) (k : Case n c
       go zero l = absurd (omega arith)
       go (suc m) l = rw (goes (opened n C m)) (u.tells m (omega arith))
 
-  -- the same case, looked through from the start
-  pub from_start : Case n costs masks rows 0 rest
-  from_start =
-      record {
-        few = k.few;
-        little = k.little;
-        table = k.table;
-        differing = k.differing;
-        held = k.held;
-        within = k.within;
-        paid = k.paid;
-        passed = omega arith;
-        none = λ i l. absurd (omega arith);
-      }
-
   -- What code finds of the pair is what the rules choose.
   pub chosen_is : (a : ℕ) → ChosenIn n masks rows from a → a ≡ chosen n C S
   chosen_is a f = f.chosen C k.differing k.none
