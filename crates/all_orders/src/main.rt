@@ -7,23 +7,21 @@ mod rails;
 mod tally;
 mod trial;
 
-use std::io::{self, Write};
+use std::io;
 use tally::Tally;
 
-fn line(rt: &impl Print, words: &[u8], n: u64) -> io::Result<()> {
-    io::writer(rt).write_all(words)?;
-    println!(rt; "{n}")
-}
-
 fn main(rt: HostRuntime) -> io::Result<()> {
-    let all = rails::chosen(rails::circles(rails::small(Tally::none())));
-    line(&rt, b"rails ", all.rails)?;
-    line(&rt, b"searches ", all.searches)?;
-    line(&rt, b"pairs counted wrong ", all.pairs)?;
-    line(&rt, b"wrong yes or no ", all.answers)?;
-    line(&rt, b"no order of the rail ", all.orders)?;
-    line(&rt, b"crossings not the order's ", all.counts)?;
-    line(&rt, b"crossings above the budget ", all.budgets)?;
-    line(&rt, b"bytes written beside the order ", all.rooms)?;
-    line(&rt, b"cases above the bound ", all.cases)
+    let mut tally = Tally::default();
+    rails::small(&mut tally);
+    rails::circles(&mut tally);
+    rails::chosen(&mut tally);
+    println!(rt; "rails {}", tally.rails)?;
+    println!(rt; "searches {}", tally.searches)?;
+    println!(rt; "pairs counted wrong {}", tally.pairs)?;
+    println!(rt; "wrong yes or no {}", tally.answers)?;
+    println!(rt; "no order of the rail {}", tally.orders)?;
+    println!(rt; "crossings not the order's {}", tally.counts)?;
+    println!(rt; "crossings above the budget {}", tally.budgets)?;
+    println!(rt; "bytes written beside the order {}", tally.rooms)?;
+    println!(rt; "cases above the bound {}", tally.cases)
 }

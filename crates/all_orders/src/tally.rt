@@ -1,50 +1,36 @@
 // What was tried, and the failures of each kind.
-ghost use Rattle.std.specs.Prelude.{◌≤◌};
+use std::fmt;
 
-#[derive(Clone, Copy)]
+// A count that stays far below the largest number; nothing is proved of it.
+#[derive(Default, Drop)]
+pub struct Count(u64);
+
+impl Count {
+    pub fn add(&mut self, more: u64) {
+        self.0 = self.0.wrapping_add(more);
+    }
+
+    // One more where a check failed.
+    pub fn add_if(&mut self, failed: bool) {
+        self.add(u64::from(failed));
+    }
+}
+
+impl fmt::Display for Count {
+    fn fmt<W: fmt::Write>(&self, f: &mut fmt::Formatter<W>) -> fmt::Result {
+        write!(f, "{}", self.0)
+    }
+}
+
+#[derive(Default, Drop)]
 pub struct Tally {
-    pub rails: u64,
-    pub searches: u64,
-    pub pairs: u64,
-    pub answers: u64,
-    pub orders: u64,
-    pub counts: u64,
-    pub budgets: u64,
-    pub rooms: u64,
-    pub cases: u64,
-}
-
-impl Tally {
-    pub fn none() -> Tally {
-        Tally {
-            rails: 0,
-            searches: 0,
-            pairs: 0,
-            answers: 0,
-            orders: 0,
-            counts: 0,
-            budgets: 0,
-            rooms: 0,
-            cases: 0,
-        }
-    }
-
-    // One rail more, with so many pairs counted wrong.
-    pub fn rail(mut self, pairs: u64) -> Tally {
-        self.rails = more(self.rails, 1);
-        self.pairs = more(self.pairs, pairs);
-        self
-    }
-}
-
-// Counts that stay far below the largest number; nothing is proved of it.
-pub fn more(count: u64, by: u64) -> u64 {
-    count.wrapping_add(by)
-}
-
-// 1 for a failure.
-pub fn one_if(failed: bool) -> u64
-    ensures { result ≤ 1 }
-{
-    if failed { 1 } else { 0 }
+    pub rails: Count,
+    pub searches: Count,
+    pub pairs: Count,
+    pub answers: Count,
+    pub orders: Count,
+    pub counts: Count,
+    pub budgets: Count,
+    pub rooms: Count,
+    pub cases: Count,
 }

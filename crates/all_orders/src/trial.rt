@@ -2,8 +2,9 @@
 ghost use Rattle.std.specs.Prelude.{◌≡◌, ◌+◌, ◌≤◌, length};
 ghost use Rattle.rules.specs.Walk.{F};
 
-use crate::every;
-use crate::tally::{Tally, more, one_if};
+use crate::every::Costs;
+use crate::tally::Tally;
+use refusals::Refusal;
 
 // What a byte of the room holds before a search; no outlet has it.
 const BEFORE: u8 = 255;
@@ -23,85 +24,84 @@ fn most_cases(k: u64) -> u64
     this - 1
 }
 
-// Was a byte written from a place on?
-fn written(room: &[u8; 8], from: usize) -> bool {
-    for i in from..8 {
-        if room[i] != BEFORE {
-            return true;
+// Is every byte as it was before the search?
+fn as_before(room: &[u8]) -> bool {
+    room.iter().all(|byte| *byte == BEFORE)
+}
+
+// A rail, its costs counted hose against hose, and the least crossings of any of its orders.
+#[derive(Drop)]
+struct Rail<'a> {
+    bins: u64,
+    outlets: &'a [u64],
+    costs: Costs,
+    least: u64,
+    ghost few_outlets: { length outlets.now ≤ 6 },
+}
+
+impl<'a> Rail<'a> {
+    fn of(bins: u64, outlets: &'a [u64]) -> Rail<'a>
+        requires { (bins ≤ 64) × (length outlets.now ≤ 6) }
+    {
+        let costs = Costs::of(bins, outlets);
+        let least = costs.least(outlets.len());
+        Rail {
+            bins,
+            outlets,
+            costs,
+            least,
         }
     }
-    false
-}
 
-// The number that a search is to answer: 0 exactly if an order is within the budget.
-fn due(least: u64, k: u64) -> u64 {
-    if least <= k { 0 } else { 6 }
-}
-
-// A yes: the room begins with an order of the rail, the crossings are that order's and within the budget, and nothing else is written.
-fn yes(
-    t: Tally,
-    bins: u64,
-    outlets: &[u64],
-    k: u64,
-    costs: &[u16; 64],
-    crossings: u64,
-    room: [u8; 8],
-) -> Tally
-    requires { length outlets.now ≤ 6 }
-{
-    let n = outlets.len();
-    let counted = orders::count(bins, outlets, &room[..n]);
-    let own = every::crossings(costs, &room, n);
-    let mut tally = t;
-    tally.orders = more(tally.orders, one_if(counted.number != 0));
-    tally.counts = more(
-        tally.counts,
-        one_if(counted.crossings != crossings || own != crossings),
-    );
-    tally.budgets = more(tally.budgets, one_if(k < crossings));
-    tally.rooms = more(tally.rooms, one_if(written(&room, n)));
-    tally
-}
-
-// A no has no crossings, and writes nothing.
-fn no(t: Tally, crossings: u64, room: [u8; 8]) -> Tally {
-    let mut tally = t;
-    tally.counts = more(tally.counts, one_if(crossings != 0));
-    tally.rooms = more(tally.rooms, one_if(written(&room, 0)));
-    tally
-}
-
-fn at_budget(t: Tally, bins: u64, outlets: &[u64], k: u64, costs: &[u16; 64], least: u64) -> Tally
-    requires { (length outlets.now ≤ 6) × (k ≤ 30) }
-{
-    let mut room = [BEFORE; 8];
-    let found = search::search(bins, outlets, k, &mut room);
-    let mut tally = t;
-    tally.searches = more(tally.searches, 1);
-    tally.answers = more(tally.answers, one_if(found.number != due(least, k)));
-    tally.cases = more(tally.cases, one_if(most_cases(k) < found.cases));
-    if found.number == 0 {
-        return yes(tally, bins, outlets, k, costs, found.crossings, room);
+    // The last budget to try: the least crossings plus 1, but no budget above 30.
+    fn last_budget(&self) -> u64
+        ensures { result ≤ 30 }
+    {
+        self.least.min(29) + 1
     }
-    no(tally, found.crossings, room)
+
+    // What a search answers at a budget: an order exactly if one is within it, and else that there is none.
+    fn at_budget(&self, k: u64, tally: &mut Tally)
+        requires { k ≤ 30 }
+    {
+        let within = self.least <= k;
+        let mut room = [BEFORE; 8];
+        tally.searches.add(1);
+        match search::search(self.bins, self.outlets, k, &mut room) {
+            Ok(found) => {
+                tally.answers.add_if(!within);
+                tally.cases.add_if(most_cases(k) < found.cases);
+                self.yes(k, found.crossings, &room, tally);
+            }
+            Err(refusal) => {
+                let no_order = matches!(&refusal, Refusal::NoOrder { .. });
+                tally.answers.add_if(within || !no_order);
+                tally.cases.add_if(most_cases(k) < refusal.cases());
+                tally.rooms.add_if(!as_before(&room));
+            }
+        }
+    }
+
+    // A yes: the room begins with an order of the rail, the crossings are that order's and within the budget, and nothing else is written.
+    fn yes(&self, k: u64, crossings: u64, room: &[u8; 8], tally: &mut Tally) {
+        let (order, beside) = room.split_at(self.outlets.len());
+        let count = orders::count(self.bins, self.outlets, order).ok();
+        let counted_here = self.costs.crossings(order);
+        let wrong = count != Some(crossings) || counted_here != crossings;
+        tally.orders.add_if(count.is_none());
+        tally.counts.add_if(wrong);
+        tally.budgets.add_if(k < crossings);
+        tally.rooms.add_if(!as_before(beside));
+    }
 }
 
-// The last budget to try: the least crossings plus 1, but no budget above 30.
-fn last(least: u64) -> u64
-    ensures { result ≤ 30 }
-{
-    if least < 30 { least + 1 } else { 30 }
-}
-
-pub fn rail(t: Tally, bins: u64, outlets: &[u64]) -> Tally
+pub fn try_rail(bins: u64, outlets: &[u64], tally: &mut Tally)
     requires { (bins ≤ 64) × (length outlets.now ≤ 6) }
 {
-    let costs = every::table(bins, outlets);
-    let least = every::least(&costs, outlets.len());
-    let mut tally = t.rail(every::wrong_pairs(&costs, outlets));
-    for k in 0..last(least) + 1 {
-        tally = at_budget(tally, bins, outlets, k, &costs, least);
+    let rail = Rail::of(bins, outlets);
+    tally.rails.add(1);
+    rail.costs.wrong_pairs(outlets, &mut tally.pairs);
+    for k in 0..=rail.last_budget() {
+        rail.at_budget(k, tally);
     }
-    tally
 }

@@ -1,74 +1,103 @@
 // The cases of the walk: opening a case, trying the two placements of the pair that it takes, and the trial of one call one another. The rest falls
 // with each case.
-// An answer is one number: twice the cases opened, and one more where an order was found; the rows that make it then stand in the room.
+// Tables, relation, rest and place are handed on one by one: held in a struct, each next relation is copied once more, which misses bars on speed.
 #![tactic(auto)]
 
-ghost use Rattle.std.specs.Prelude.{ℕ, ◌≡◌, ◌+◌, ◌*◌, ◌≤◌, ◌<◌};
+ghost use Rattle.std.specs.Prelude.{ℕ, ◌≡◌, ◌≤◌, ◌<◌, false, MatchOption};
 ghost use Rattle.rules.specs.Walk.{chosen};
-ghost use Rattle.tables.specs.Tables.{cost_in, Costs};
+ghost use Rattle.tables.specs.Tables.{cost_in};
 ghost use Rattle.placements.specs.Rows.{reads, Rows, Unplaced};
-ghost use Rattle.cases.specs.Case.{Case, CaseOf, Cheaper, Opened, Settled, Tried, Trial, PriceWithin, Paying, LeafIn};
+ghost use Rattle.cases.specs.Case.{outlets_of, cost_of, Case, CaseOf, Cheaper, PriceWithin, PriceBeyond, Paying, LeafIn};
+ghost use Rattle.cases.specs.Case.{Opened, Settled, Tried, Trial};
 
 use placements::{Placement, Relation};
+use tables::{CostTable, Tables};
+
+// What is answered of a case or of a way to go on from it: the cases opened, and whether an order was found. The relation that makes it then stands
+// in the room.
+#[derive(Clone, Copy)]
+pub struct Outcome {
+    pub cases: u64,
+    pub found: bool,
+}
+
+impl Outcome {
+    // So many cases, and no order.
+    fn nothing(cases: u64) -> Self
+        ensures cases { result.cases ≡ cases }
+        ensures none { result.found ≡ false }
+    {
+        Self {
+            cases,
+            found: false,
+        }
+    }
+}
 
 // Opens a case: it takes the first unplaced pair whose cross values differ, the cheaper way first, or settles.
 #[cycle(open_case_try_both)]
 pub fn open_case(
-    rows: &[u32; 64],
+    tables: &Tables,
+    relation: &Relation,
     rest: u64,
     from: usize,
-    n: usize,
-    costs: &[u16; 1024],
-    masks: &[u32; 64],
-    room: &mut [u32; 64],
-) -> u64
-    requires { Case n costs.now masks.now rows.now from rest }
-    ensures { Opened n costs.now rows.now rest result room.new }
+    room: &mut Relation,
+) -> Outcome
+    requires { Case tables.now relation.now.rows from rest }
+    ensures { Opened tables.now relation.now.rows rest result.cases result.found room.new.rows }
 {
-    let a = placements::chosen(rows, masks, from, n);
-    if a == n {
-        return settle(rows, rest, n, costs, masks, room);
-    }
-    let way = cheaper_way(costs, a, placements::partner(rows, masks, a));
-    try_both(rows, rest, a, way.left, way.right, n, costs, masks, room)
+    let Some(a) = relation.chosen(tables, from) else {
+        return settle(tables, relation, rest, room);
+    };
+    let way = Way::cheaper(tables.costs, a, relation.partner(tables, a));
+    try_both(tables, relation, rest, a, way, room)
 }
 
-// Tries the two placements of the pair that a case takes: a left of b, and if that finds nothing b left of a, from the case as it was opened.
+// Tries the two placements of the pair that a case takes: the one way, and if that finds nothing the other, from the case as it was opened.
 #[cycle(open_case_try_both)]
 fn try_both(
-    rows: &[u32; 64],
+    tables: &Tables,
+    relation: &Relation,
     rest: u64,
     from: usize,
-    a: usize,
-    b: usize,
-    n: usize,
-    costs: &[u16; 1024],
-    masks: &[u32; 64],
-    room: &mut [u32; 64],
-) -> u64
-    requires { CaseOf n costs.now masks.now rows.now from a b rest }
-    ensures { Tried n costs.now rows.now a b rest result room.new }
+    way: Way,
+    room: &mut Relation,
+) -> Outcome
+    requires { CaseOf tables.now relation.now.rows from way.left way.right rest }
+    ensures { Tried tables.now relation.now.rows way.left way.right rest result.cases result.found room.new.rows }
 {
-    let mut opened = 2;
-    let first = price(rows, costs, a, b, rest);
-    if first.cost <= rest {
-        if is_leaf(rows, rest, from, n, masks, first) {
-            opened += 2;
-        } else {
-            opened += trial(rows, rest, from, n, costs, masks, first, room);
-        }
-    }
-    if opened % 2 == 1 {
+    let mut opened = go(tables, relation, rest, from, way, room);
+    opened.cases += 1;
+    if opened.found {
         return opened;
     }
-    let other = price(rows, costs, b, a, rest);
-    if rest < other.cost {
-        return opened;
+    let other = go(tables, relation, rest, from, way.turned(), room);
+    opened.cases += other.cases;
+    opened.found = other.found;
+    opened
+}
+
+// Goes one way, where that takes no more than the rest. Inlined at both calls: as calls they miss bars on speed.
+#[cycle(open_case_try_both)]
+#[inline(always)]
+fn go(
+    tables: &Tables,
+    relation: &Relation,
+    rest: u64,
+    from: usize,
+    way: Way,
+    room: &mut Relation,
+) -> Outcome
+    requires { CaseOf tables.now relation.now.rows from way.left way.right rest }
+    ensures { Trial tables.now relation.now.rows way.left way.right rest result.cases result.found room.new.rows }
+{
+    let Some(placement) = price(tables.costs, relation, rest, way) else {
+        return Outcome::nothing(0);
+    };
+    if is_leaf(tables, relation, rest, from, placement) {
+        return Outcome::nothing(1);
     }
-    if is_leaf(rows, rest, from, n, masks, other) {
-        return opened + 2;
-    }
-    opened + trial(rows, rest, from, n, costs, masks, other, room)
+    trial(tables, relation, rest, from, placement, room)
 }
 
 // Opens the case that a placement within the rest leaves. A call of its own, so that the relations that are handed on by value here lie on the stack
@@ -76,81 +105,61 @@ fn try_both(
 #[cycle(open_case_try_both)]
 #[inline(never)]
 fn trial(
-    rows: &[u32; 64],
+    tables: &Tables,
+    relation: &Relation,
     rest: u64,
     from: usize,
-    n: usize,
-    costs: &[u16; 1024],
-    masks: &[u32; 64],
     placement: Placement,
-    room: &mut [u32; 64],
-) -> u64
-    requires { (a : ℕ) × (b : ℕ) × Paying n costs.now masks.now rows.now from a b rest placement.cost placement.left placement.right }
-    ensures { (a b : ℕ) → Paying n costs.now masks.now rows.now from a b rest placement.cost placement.left placement.right → Trial n costs.now rows.now a b rest result room.new }
+    room: &mut Relation,
+) -> Outcome
+    requires { (a : ℕ) × (b : ℕ) × Paying tables.now relation.now.rows from a b rest placement.cost placement.left placement.right }
+    ensures { (a b : ℕ) → Paying tables.now relation.now.rows from a b rest placement.cost placement.left placement.right
+        → Trial tables.now relation.now.rows a b rest result.cases result.found room.new.rows }
 {
-    let next = Relation::of(rows).place(placement);
-    open_case(
-        &next.rows,
-        rest - placement.cost,
-        from,
-        n,
-        costs,
-        masks,
-        room,
-    )
+    let next = Relation::of(&relation.rows).place(placement);
+    open_case(tables, &next, rest - placement.cost, from, room)
 }
 
 // Does the placement open a case that opens no other and finds nothing? It does where nothing is left to spend and a pair is left, since every
 // unplaced pair costs something.
 fn is_leaf(
-    rows: &[u32; 64],
+    tables: &Tables,
+    relation: &Relation,
     rest: u64,
     from: usize,
-    n: usize,
-    masks: &[u32; 64],
     placement: Placement,
 ) -> bool
-    requires { (n ≤ 32) × Rows rows.now }
-    ensures { LeafIn n masks.now rows.now rest placement.cost placement.left placement.right result }
+    requires { Rows relation.now.rows }
+    ensures { LeafIn tables.now relation.now.rows rest placement.cost placement.left placement.right result }
 {
-    if placement.cost < rest {
-        return false;
-    }
-    placements::leaves_unplaced(rows, masks, placement, from, n)
+    rest <= placement.cost && relation.leaves_unplaced(tables, placement, from)
 }
 
 // With no such pair, a case succeeds where the costs of the unplaced pairs are within the rest.
-fn settle(
-    rows: &[u32; 64],
-    rest: u64,
-    n: usize,
-    costs: &[u16; 1024],
-    masks: &[u32; 64],
-    room: &mut [u32; 64],
-) -> u64
-    requires { Case n costs.now masks.now rows.now 0 rest × (chosen n (cost_in costs.now) (reads rows.now) ≡ n) }
-    ensures { Settled n costs.now rows.now rest result room.new }
+fn settle(tables: &Tables, relation: &Relation, rest: u64, room: &mut Relation) -> Outcome
+    requires { Case tables.now relation.now.rows 0 rest
+        × (chosen (outlets_of tables.now) (cost_of tables.now) (reads relation.now.rows) ≡ outlets_of tables.now) }
+    ensures { Settled tables.now relation.now.rows rest result.cases result.found room.new.rows }
 {
-    if rest < placements::equal_costs(rows, masks, costs, n, rest) {
-        return 2;
+    let found = relation.equal_costs(tables, rest) <= rest;
+    if found {
+        *room = *relation;
     }
-    *room = *rows;
-    3
+    Outcome { cases: 1, found }
 }
 
-// What placing a left of b comes to. Where the pair alone takes more than the rest, no more is looked at.
-fn price(rows: &[u32; 64], costs: &[u16; 1024], a: usize, b: usize, rest: u64) -> Placement
-    requires { Rows rows.now × Unplaced rows.now a b × Costs costs.now × (rest ≤ 30) }
-    ensures { PriceWithin costs.now rows.now a b rest result.cost result.left result.right }
+// What going one way comes to, where that takes no more than the rest. Where the pair alone takes more, no more is looked at.
+fn price(costs: &CostTable, relation: &Relation, rest: u64, way: Way) -> Option<Placement>
+    requires { Rows relation.now.rows × Unplaced relation.now.rows way.left way.right }
+    ensures { MatchOption result
+        (PriceBeyond costs.now.pairs relation.now.rows way.left way.right rest)
+        (λ p. PriceWithin costs.now.pairs relation.now.rows way.left way.right rest p.cost p.left p.right) }
 {
-    if rest < tables::wide(costs[32 * a + b]) {
-        return Placement {
-            cost: rest + 1,
-            left: 0,
-            right: 0,
-        };
+    if rest < costs.cost(way.left, way.right) {
+        return None;
     }
-    placements::price_of(rows, costs, a, b)
+    let placement = relation.price_of(costs, way.left, way.right);
+    (placement.cost <= rest).then_some(placement)
 }
 
 // One of the two ways in which a pair can stand.
@@ -160,14 +169,27 @@ struct Way {
     right: usize,
 }
 
-// The cheaper way of the pair a, b; b left of a where they cost the same.
-fn cheaper_way(costs: &[u16; 1024], a: usize, b: usize) -> Way
-    requires { (a < 32) × (b < 32) }
-    ensures { Cheaper (cost_in costs.now) a b result.left result.right }
-{
-    if costs[32 * a + b] < costs[32 * b + a] {
-        Way { left: a, right: b }
-    } else {
-        Way { left: b, right: a }
+impl Way {
+    // The cheaper way of the pair a, b; b left of a where they cost the same.
+    fn cheaper(costs: &CostTable, a: usize, b: usize) -> Self
+        requires { (a < 32) × (b < 32) }
+        ensures { Cheaper (cost_in costs.now.pairs) a b result.left result.right }
+    {
+        if costs.cost(a, b) < costs.cost(b, a) {
+            Self { left: a, right: b }
+        } else {
+            Self { left: b, right: a }
+        }
+    }
+
+    // The other way.
+    fn turned(self) -> Self
+        ensures left { result.left ≡ self.right }
+        ensures right { result.right ≡ self.left }
+    {
+        Self {
+            left: self.right,
+            right: self.left,
+        }
     }
 }

@@ -215,6 +215,15 @@ lowest_within (suc k) m p h =
     (λ e. omega (arith, lowest_even k m e, lowest_within k (m / 2) (omega arith) (half_below m k h)))
     (λ e. omega (arith, lowest_odd k m e))
 
+-- the same one in a number of more bits,
+pub lowest_same : (k w m : ℕ) → 0 < m → m < 2 ^ k → m < 2 ^ w → count_trailing_zeros k m ≡ count_trailing_zeros w m
+lowest_same zero w m p h l = absurd (omega arith)
+lowest_same (suc k) zero m p h l = absurd (omega arith)
+lowest_same (suc k) (suc w) m p h l =
+    bottom m
+    (λ e. omega (arith, lowest_even k m e, lowest_even w m e, lowest_same k w (m / 2) (omega arith) (half_below m k h) (half_below m w l)))
+    (λ e. omega (arith, lowest_odd k m e, lowest_odd w m e))
+
 -- its bit is set, and those below it are not
 pub lowest_set : (k m : ℕ) → count_trailing_zeros k m < k → bit m (count_trailing_zeros k m) ≡ 1
 lowest_set k m h =

@@ -1,10 +1,14 @@
 // A set of bins is one 64-bit number, bit b for bin b: a bin tested, the hoses at an outlet, those further left, and cross of two outlets.
 #![tactic(auto)]
 
+mod ones;
+
 ghost use Rattle.std.specs.Prelude.{◌≡◌, ◌<◌, eqb};
 ghost use Rattle.rules.specs.Sum.{sum};
 ghost use Rattle.rules.specs.Crossing.{bit, profile, hoses};
 ghost use Rattle.rules.specs.Pair.{Paired};
+
+pub use ones::Ones;
 
 // Is the bin in the set?
 pub fn has_bin(set: u64, bin: u64) -> bool
@@ -17,15 +21,15 @@ pub fn has_bin(set: u64, bin: u64) -> bool
 pub fn at_outlet(set: u64) -> u64
     ensures { result ≡ hoses (profile set) }
 {
-    u64::count_ones(set) as u64
+    u64::from(set.count_ones())
 }
 
 // The hoses further left than a bin: the count of ones under a mask.
-fn further_left(set: u64, bin: u64) -> u64
+fn further_left(set: u64, bin: usize) -> u64
     requires { bin < 64 }
     ensures { result ≡ sum (profile set) bin }
 {
-    u64::count_ones(set & (1 << bin) - 1) as u64
+    u64::from((set & (1 << bin) - 1).count_ones())
 }
 
 // cross(a, b): for each hose of a, the lowest first, the hoses of b further left.
@@ -33,10 +37,8 @@ pub fn pair(a: u64, b: u64) -> u64
     ensures { Paired a b result }
 {
     let mut crossings: u64 = 0;
-    let mut rest = a;
-    while rest != 0 {
-        crossings += further_left(b, u64::trailing_zeros(rest) as u64);
-        rest &= rest - 1;
+    for bin in Ones::of(a) {
+        crossings += further_left(b, bin);
     }
     crossings
 }

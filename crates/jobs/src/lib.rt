@@ -1,10 +1,13 @@
 // The checks of a job, once for every operation that takes one: 1 (bins), 2 (outlets), 3 (budget) and 4 (a hose from no bin of the row).
-// Each answers what the rules' definition of its check says, and 0 where no check holds.
+// Each refuses by the number that the rules' definition of its check says.
 #![tactic(auto)]
 
-ghost use Rattle.std.specs.Prelude.{◌≡◌};
+ghost use Rattle.std.specs.Prelude.{◌≡◌, IfErr};
 ghost use Rattle.rules.specs.Numbers.{bad_budget, stray_hoses, job_checks};
 ghost use Rattle.rules.specs.Count.{rail_checks};
+ghost use Rattle.refusals.specs.Numbers.{number_told, cases_of};
+
+use refusals::Refusal;
 
 pub const MOST_BINS: u64 = 64;
 
@@ -16,6 +19,7 @@ pub const MOST_BUDGET: u64 = 30;
 pub const NOT_WRITTEN: u64 = 255;
 
 // 3: budget above 30, other than 255 for "not written"
+#[tactic(auto, unfolding(rules::specs::Numbers::bad_budget))]
 pub fn bad_budget(budget: u64) -> bool
     ensures { result ≡ bad_budget budget }
 {
@@ -30,36 +34,37 @@ pub fn stray_hoses(bins: u64, outlets: &[u64]) -> bool
         return false;
     }
     let mut all: u64 = 0;
-    let mut at = 0;
-    while at < outlets.len() {
-        all |= outlets[at];
-        at += 1;
+    for set in outlets {
+        all |= *set;
     }
     all >> bins != 0
 }
 
 // The checks of a job, in the order 1, 2, 3, 4.
-pub fn refusal(bins: u64, outlets: &[u64], budget: u64) -> u64
-    ensures { result ≡ job_checks bins outlets.now budget }
+#[tactic(auto, unfolding(rules::specs::Numbers::first_of, rules::specs::Numbers::job_checks, rules::specs::Numbers::too_many_bins, rules::specs::Numbers::too_many_outlets))]
+pub fn check(bins: u64, outlets: &[u64], budget: u64) -> Result<(), Refusal>
+    ensures number { number_told result ≡ job_checks bins outlets.now budget }
+    ensures no_cases { IfErr result (λ refusal. cases_of refusal ≡ 0) }
 {
     if MOST_BINS < bins {
-        return 1;
+        return Err(Refusal::TooManyBins);
     }
     if MOST_OUTLETS < outlets.len() {
-        return 2;
+        return Err(Refusal::TooManyOutlets);
     }
     if bad_budget(budget) {
-        return 3;
+        return Err(Refusal::BadBudget);
     }
     if stray_hoses(bins, outlets) {
-        return 4;
+        return Err(Refusal::StrayHose);
     }
-    0
+    Ok(())
 }
 
 // The checks of a rail that comes with no budget, in the order 1, 2, 4: those of a job with budget 0, which no check refuses.
-pub fn rail_refusal(bins: u64, outlets: &[u64]) -> u64
-    ensures { result ≡ rail_checks bins outlets.now }
+pub fn check_rail(bins: u64, outlets: &[u64]) -> Result<(), Refusal>
+    ensures number { number_told result ≡ rail_checks bins outlets.now }
+    ensures no_cases { IfErr result (λ refusal. cases_of refusal ≡ 0) }
 {
-    refusal(bins, outlets, 0)
+    check(bins, outlets, 0)
 }

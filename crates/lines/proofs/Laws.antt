@@ -1,161 +1,120 @@
--- What the writers keep: a number's last digit behind the others, a word of which some bytes stand, outlets of which some stand, and the parts of a line.
+-- What is put: a number as the library has it, an order's outlets, one part behind another, and the parts of a line.
 use mathlib.Core.Path.{◌≡◌, refl, sym, ◌∙◌, ap}
-use mathlib.Core.List.{List, [], ◌∷◌, ◌++◌, map, append_assoc}
-use Prim.Native.Nat.{ℕ, ◌+◌, ◌/◌, ◌%◌, ◌≤◌, ◌<◌}
+use mathlib.Core.Bool.{false}
+use mathlib.Core.List.{List, [], ◌∷◌, ◌++◌, map, append_assoc, append-nil}
+use Prim.Native.Nat.{ℕ, zero, suc, ◌+◌, ◌-◌, ◌/◌, ◌%◌, ◌^◌, ◌≤◌, ◌<◌}
+use native.Mathlib.Decide.{dec_lt}
 use native.Mathlib.Omega.{arith}
 use native.Mathlib.Numerals.{add-one}
-use lib.ListN.{length, get_or, drop, set, length-append, drop_of_length-le}
-use lib.Seq.{sets, length-sets, drop-cons}
-use borrow.Author.Tests.{eq-eqb, ne_eqb}
-use Rattle.rules.specs.Line.{Word, blank, line_feed, digit, digits, decimal, behind, line_of, order_line, no_order_line, refused_line, answer_line}
+use lib.ListN.{length, get_or, take, drop, length-append, take-append-drop}
+use lib.Seq.{take-suc}
+use borrow.Rule.Slice.PartMut.{put_mid}
+use borrow.Author.Tests.{lt-ltb, eq-eqb, ne_eqb}
+use Rattle.std.proofs.Common.{Err}
+use Rattle.std.specs.Fmt as std
+use Rattle.std.specs.Fmt.{digit_glyph, digits_onto}
+use Rattle.rules.specs.Line.{Word, blank, digit, digits, decimal, behind, line_of, order_line, no_order_line, refused_line, answer_line}
 use Rattle.rules.specs.Text.{text}
 use Rattle.rules.proofs.Decimal.{decimal_one, decimal_more}
-use Rattle.lines.specs.Parts.{pieces, outlet_piece, last_part}
-use Rattle.sheets.proofs.WriteLaws.{sets_append}
+use Rattle.sheets.specs.Writing.{in_front}
+use Rattle.sheets.proofs.WriteLaws.{put_behind}
+use Rattle.refusals.specs.declared.Refusal.{Refusal}
+use Rattle.refusals.specs.declared.Refusal.TheVariants.{NoOrder}
+use Rattle.refusals.specs.Numbers.{number_of}
+use Rattle.lines.specs.Parts.{pieces, outlet_piece, crossings_part, last_part}
+use Rattle.lines.specs.Told.{line_told}
 
--- one digit, or the last of several
-pub digit_only : (room : List ℕ) (at n : ℕ) → n < 10 → (at + 1 ≡ at + length (decimal n)) × (set room at (digit n) ≡ sets room at (decimal n))
-digit_only room at n h = rw (decimal_one n h) (refl, refl)
+-- The library's decimal is the rules': its digits stand in front of what was given.
+glyph : (d : ℕ) → d < 10 → digit_glyph false d ≡ digit d
+glyph d h = rw (lt-ltb d 10 h)
 
-pub digit_last : (room : List ℕ) (at n : ℕ) → 10 ≤ n → (rest : List ℕ) (last : ℕ) → last ≡ at + length (decimal (n / 10)) → rest ≡ sets room at (decimal (n / 10))
-    → (last + 1 ≡ at + length (decimal n)) × (set rest last (digit (n % 10)) ≡ sets room at (decimal n))
-digit_last room at n h rest last e f =
-    let d : decimal n ≡ decimal (n / 10) ++ (digit (n % 10) ∷ []) = decimal_more n h in (
-      omega (arith, simp length-append at (ap length d)),
-      rw (e, f) (sym (ap (sets room at) d ∙ sets_append room at (decimal (n / 10)) (digit (n % 10) ∷ []))),
-    )
+onto_one : (most n : ℕ) (others : List ℕ) → n < 10 → digits_onto (suc most) 10 false n others ≡ digit n ∷ others
+onto_one most n others h =
+    let last : n % 10 ≡ n = omega arith in
+    rw (eq-eqb (n / 10) 0 (omega arith), glyph (n % 10) (omega arith), last)
 
--- there is room for the last where there is room for all
-pub last_fits : (n : ℕ) → 10 ≤ n → length (decimal (n / 10)) + 1 ≡ length (decimal n)
-last_fits n h = omega (arith, simp length-append at (ap length (decimal_more n h)))
+onto_more : (most n : ℕ) (others : List ℕ) → 10 ≤ n
+    → digits_onto (suc most) 10 false n others ≡ digits_onto most 10 false (n / 10) (digit (n % 10) ∷ others)
+onto_more most n others h = rw (ne_eqb (n / 10) 0 (λ z. omega arith), glyph (n % 10) (omega arith))
 
--- What holds where i pieces of a row stand from `from` on, and the next goes to `at`.
-pub record Put (piece : ℕ → List ℕ) (before : List ℕ) (from : ℕ) (row room : List ℕ) (at i : ℕ) : Type 0 where
-  pub long : length room ≡ length before
-  pub up_to : i ≤ length row
-  pub ends : at + length (pieces piece (drop i row)) ≡ from + length (pieces piece row)
-  pub stored : sets room at (pieces piece (drop i row)) ≡ sets before from (pieces piece row)
+onto : (most n : ℕ) (others : List ℕ) → n < 10 ^ suc most → digits_onto (suc most) 10 false n others ≡ decimal n ++ others
+onto zero n others h = onto_one zero n others (omega arith) ∙ rw (decimal_one n (omega arith))
+onto (suc most) n others h =
+    elim (dec_lt n 10) [
+      | yes one ↦ onto_one (suc most) n others one ∙ rw (decimal_one n one)
+      | no more ↦
+          onto_more (suc most) n others (omega arith)
+          ∙ onto most (n / 10) (digit (n % 10) ∷ others) (omega arith)
+          ∙ rw (decimal_more n (omega arith)) (sym (append_assoc (decimal (n / 10)) (digit (n % 10) ∷ []) others))
+    ]
 
-pub none_put : (piece : ℕ → List ℕ) (before : List ℕ) (from : ℕ) (row : List ℕ) → Put piece before from row before from 0
-none_put piece before from row = record { long = refl; up_to = omega arith; ends = refl; stored = refl }
+pub same_decimal : (n : ℕ) → n < 2 ^ 64 → std.decimal n ≡ decimal n
+unfolding std.digits
+same_decimal n h = onto 63 n [] (omega arith) ∙ append-nil (decimal n)
 
-module _ (piece : ℕ → List ℕ) (before : List ℕ) (from : ℕ) (row room : List ℕ) (at i : ℕ) (P : Put piece before from row room at i) where
-  -- the pieces that are left begin with the next one
-  ahead : i < length row → pieces piece (drop i row) ≡ piece (get_or row i 0) ++ pieces piece (drop (i + 1) row)
+-- a row of pieces, and one more
+pieces_append : (piece : ℕ → List ℕ) (xs ys : List ℕ) → pieces piece (xs ++ ys) ≡ pieces piece xs ++ pieces piece ys
+unfolding pieces
+pieces_append piece [] ys = refl
+pieces_append piece (x ∷ xs) ys =
+    ap (λ l. piece x ++ l) (pieces_append piece xs ys) ∙ sym (append_assoc (piece x) (pieces piece xs) (pieces piece ys))
+
+module _ (piece : ℕ → List ℕ) (row : List ℕ) (i : ℕ) (h : i < length row) where
+  pub pieces_more : pieces piece (take (i + 1) row) ≡ pieces piece (take i row) ++ piece (get_or row i 0)
   unfolding pieces
-  ahead h = ap (pieces piece) (drop-cons row i 0 h) ∙ sym (rw (add-one i) refl)
+  pieces_more =
+      ap (pieces piece) (rw (add-one i) (take-suc row i 0 h)) ∙ pieces_append piece (take i row) (get_or row i 0 ∷ [])
+      ∙ ap (λ l. pieces piece (take i row) ++ l) (append-nil (piece (get_or row i 0)))
 
-  pub piece_fits : i < length row → at + length (piece (get_or row i 0)) ≤ from + length (pieces piece row)
-  piece_fits h = omega (arith, simp length-append at (ap length (ahead h)), P.ends)
+  -- it fits where all of them fit
+  pub piece_fits : length (pieces piece (take i row)) + length (piece (get_or row i 0)) ≤ length (pieces piece row)
+  piece_fits =
+      let first : List ℕ = take (i + 1) row in
+      let rest : List ℕ = drop (i + 1) row in
+      let whole = ap (pieces piece) (take-append-drop (i + 1) row) in
+      let all : pieces piece first ++ pieces piece rest ≡ pieces piece row = sym (pieces_append piece first rest) ∙ whole in
+      omega (arith, simp length-append at (ap length pieces_more), simp length-append at (ap length all))
 
-  pub one_put : i < length row → (last : List ℕ) (next : ℕ) → last ≡ sets room at (piece (get_or row i 0)) → next ≡ at + length (piece (get_or row i 0)) → Put piece before from row last next (i + 1)
-  one_put h last next e n =
-      let here : List ℕ = piece (get_or row i 0) in
-      let rest : List ℕ = pieces piece (drop (i + 1) row) in
-      record {
-        long = ap length e ∙ length-sets room at here ∙ P.long;
-        up_to = omega arith;
-        ends = omega (arith, simp length-append at (ap length (ahead h)), P.ends);
-        stored = rw (e, n) (sym (ap (sets room at) (ahead h) ∙ sets_append room at here rest) ∙ P.stored);
-      }
-
-  pub all_put : length row ≤ i → (at ≡ from + length (pieces piece row)) × (room ≡ sets before from (pieces piece row))
-  unfolding pieces
-  all_put h =
-      let none : pieces piece (drop i row) ≡ [] = ap (pieces piece) (drop_of_length-le row h) in
-      (omega (arith, ap length none, P.ends), sym (ap (sets room at) none) ∙ P.stored)
-
--- a row of bytes is put as it stands
-unfoldable pub byte : ℕ → List ℕ
-byte b = b ∷ []
-
-pub bytes : (row : List ℕ) → pieces byte row ≡ row
-unfolding pieces byte
-bytes [] = refl
-bytes (b ∷ row) = ap (λ (l : List ℕ). b ∷ l) (bytes row)
-
-module _ (before : List ℕ) (from : ℕ) (row room : List ℕ) (at i : ℕ) (P : Put byte before from row room at i) where
-  pub byte_fits : i < length row → at < from + length row
-  unfolding byte
-  byte_fits h = omega (arith, piece_fits byte before from row room at i P h, ap length (bytes row))
-
-  pub byte_put : i < length row → Put byte before from row (set room at (get_or row i 0)) (at + 1) (i + 1)
-  unfolding byte
-  byte_put h = one_put byte before from row room at i P h _ _ refl refl
-
-  pub bytes_put : length row ≤ i → (at ≡ from + length row) × (room ≡ sets before from row)
-  bytes_put h = rw bytes at (all_put byte before from row room at i P h)
+-- What is put in front of the room that a part left stands behind that part.
+pub then_put : (front part room now written : List ℕ) (at k : ℕ) → now ≡ in_front front room → at ≡ length front → k ≡ length now - at
+    → length (front ++ part) ≤ length room
+    → written ≡ in_front part (take k (drop at now)) → put_mid at k now written ≡ in_front (front ++ part) room
+then_put front part room now written at k e a left fits w =
+    put_behind front part room now written at k e a left (omega (arith, length-append front part)) w
 
 -- The lines as the parts that are put.
 pub refused_parts : (number : ℕ) → refused_line number ≡ last_part (text "refused ") number
-unfolding refused_line line_of behind text last_part
+unfolding refused_line line_of behind text
 refused_parts number = refl
 
 pub no_order_parts : (cases : ℕ) → no_order_line cases ≡ last_part (text "refused 6 cases ") cases
-unfolding no_order_line line_of behind text last_part digits decimal
+unfolding no_order_line line_of behind text digits decimal
 no_order_parts cases = refl
 
 outlets_parts : (order : List ℕ) (words : List Word) → behind (map decimal order ++ words) ≡ pieces outlet_piece order ++ behind words
-unfolding behind pieces outlet_piece
+unfolding behind pieces
 outlets_parts [] words = refl
 outlets_parts (o ∷ order) words = ap (λ (l : List ℕ). blank ∷ (decimal o ++ l)) (outlets_parts order words) ∙ simp append_assoc
 
-pub order_parts : (order : List ℕ) (count cases : ℕ) → order_line order count cases ≡ text "order" ++ (pieces outlet_piece order ++ (text " crossings " ++ (decimal count ++ last_part (text " cases ") cases)))
-unfolding order_line line_of behind text last_part
-order_parts order count cases = ap (λ (l : List ℕ). text "order" ++ l) (outlets_parts order (text "crossings" ∷ decimal count ∷ text "cases" ∷ decimal cases ∷ []))
+regroup : (a b c d e : List ℕ) → a ++ (b ++ (c ++ (d ++ e))) ≡ ((a ++ b) ++ (c ++ d)) ++ e
+regroup a b c d e = simp append_assoc
 
--- How long they are, part by part.
-pub last_long : (words : List ℕ) (n : ℕ) → length (last_part words n) ≡ length words + length (decimal n) + 1
-unfolding last_part
-last_long words n = simp length-append (omega arith)
+pub order_parts : (order : List ℕ) (count cases : ℕ) → order_line order count cases ≡ crossings_part order count ++ last_part (text " cases ") cases
+unfolding order_line line_of behind text
+order_parts order count cases =
+    ap (λ (l : List ℕ). text "order" ++ l) (outlets_parts order (text "crossings" ∷ decimal count ∷ text "cases" ∷ decimal cases ∷ []))
+    ∙ regroup (text "order") (pieces outlet_piece order) (text " crossings ") (decimal count) (last_part (text " cases ") cases)
 
-pub order_long : (order : List ℕ) (count cases : ℕ) → length (order_line order count cases) ≡ 16 + length (pieces outlet_piece order) + length (decimal count) + length (last_part (text " cases ") cases)
-unfolding text
-order_long order count cases = rw order_parts (simp length-append (omega arith))
+pub order_long : (order : List ℕ) (count cases : ℕ)
+    → length (order_line order count cases) ≡ length (crossings_part order count) + length (last_part (text " cases ") cases)
+order_long order count cases =
+    ap length (order_parts order count cases) ∙ length-append (crossings_part order count) (last_part (text " cases ") cases)
 
--- One part behind another: the last words and their number, and all of an order's line.
-then_put : (room : List ℕ) (at : ℕ) (p : List ℕ) (one : List ℕ) (next : ℕ) (q : List ℕ) (two : List ℕ) → next ≡ at + length p → one ≡ sets room at p → two ≡ sets one next q → two ≡ sets room at (p ++ q)
-then_put room at p one next q two n e f = rw (f, e, n) (sym (sets_append room at p q))
+pub ruleset order_put = (then_put, order_parts, order_long)
 
-pub last_put : (room : List ℕ) (at : ℕ) (words : List ℕ) (n : ℕ) (one : List ℕ) (number : ℕ) (two : List ℕ) (end : ℕ) → number ≡ at + length words → one ≡ sets room at words
-    → end ≡ number + length (decimal n) → two ≡ sets one number (decimal n) → (end + 1 ≡ at + length (last_part words n)) × (set two end line_feed ≡ sets room at (last_part words n))
-unfolding last_part
-last_put room at words n one number two end e f g h = (
-  omega (arith, last_long words n),
-  then_put room at words one number (decimal n ++ (line_feed ∷ [])) _ e f (then_put one number (decimal n) two end (line_feed ∷ []) _ g h refl),
-)
-
-pub order_put : (room order : List ℕ) (count cases : ℕ) (one : List ℕ) (outlets : ℕ) (two : List ℕ) (word : ℕ) (three : List ℕ) (number : ℕ) (four : List ℕ) (last : ℕ) (five : List ℕ) (end : ℕ)
-    → outlets ≡ 0 + length (text "order") → one ≡ sets room 0 (text "order")
-    → word ≡ outlets + length (pieces outlet_piece order) → two ≡ sets one outlets (pieces outlet_piece order)
-    → number ≡ word + length (text " crossings ") → three ≡ sets two word (text " crossings ")
-    → last ≡ number + length (decimal count) → four ≡ sets three number (decimal count)
-    → end ≡ last + length (last_part (text " cases ") cases) → five ≡ sets four last (last_part (text " cases ") cases)
-    → (end ≡ length (order_line order count cases)) × (five ≡ sets room 0 (order_line order count cases))
-unfolding text
-order_put room order count cases one outlets two word three number four last five end e f g h i j k l m n =
-    let from_cases : List ℕ = last_part (text " cases ") cases in
-    let from_count : List ℕ = decimal count ++ from_cases in
-    let from_word : List ℕ = text " crossings " ++ from_count in
-    let from_outlets : List ℕ = pieces outlet_piece order ++ from_word in
-    let counted : five ≡ sets three number from_count = then_put three number (decimal count) four last from_cases five k l n in
-    let worded : five ≡ sets two word from_word = then_put two word (text " crossings ") three number from_count five i j counted in
-    let listed : five ≡ sets one outlets from_outlets = then_put one outlets (pieces outlet_piece order) two word from_word five g h worded in (
-      omega (arith, order_long order count cases),
-      then_put room 0 (text "order") one outlets from_outlets five e f listed
-          ∙ ap (sets room 0) (sym (order_parts order count cases)),
-    )
-
--- The line of an answer, by what its number is.
-module _ (number : ℕ) (order : List ℕ) (count cases : ℕ) where
-  pub answers_order : number ≡ 0 → answer_line number order count cases ≡ order_line order count cases
-  unfolding answer_line
-  answers_order e = rw (eq-eqb number 0 e, answer_line)
-
-  pub answers_none : number ≡ 6 → answer_line number order count cases ≡ no_order_line cases
-  unfolding answer_line
-  answers_none e = rw (ne_eqb number 0 (λ z. omega arith), answer_line) (rw (eq-eqb number 6 e))
-
-  pub answers_refused : (number ≡ 0 → ⊥) → (number ≡ 6 → ⊥) → answer_line number order count cases ≡ refused_line number
-  unfolding answer_line
-  answers_refused n m = rw (ne_eqb number 0 n, answer_line) (rw (ne_eqb number 6 m))
+-- A refusal that tells no cases tells its number alone.
+pub told_refused : (refusal : Refusal) (order : List ℕ) → ((cases : ℕ) → refusal ≡ NoOrder cases → ⊥)
+    → line_told (Err refusal) order ≡ refused_line (number_of refusal)
+unfolding answer_line
+told_refused (NoOrder cases) order other = absurd (other cases refl)
+told_refused _ order other = refl

@@ -1,33 +1,47 @@
 -- What `line` makes is the sheet's line: the refusal's where the sheet is none, else that of what the search answered.
-use mathlib.Core.Path.{◌≡◌, refl, ◌∙◌, ap}
-use mathlib.Core.List.{List, ◌++◌}
+use mathlib.Core.Path.{◌≡◌, refl, ap}
+use mathlib.Core.List.{List}
 use Prim.Native.Nat.{ℕ, ◌≤◌}
 use native.Mathlib.Omega.{arith}
-use native.Mathlib.Nat.{zero-add}
-use lib.ListN.{length, take, drop, length-append}
-use lib.Seq.{sets, sets-eq}
-use Rattle.rules.specs.Read.{Job, SheetRead}
-use Rattle.rules.specs.Search.{Found, Searched}
-use Rattle.rules.specs.Line.{refused_line, answer_line, own_room, SheetLine, Lined, LineMade}
+use lib.ListN.{length, take, length-append}
+use Rattle.std.proofs.Common.{Result, Ok, Err}
+use Rattle.refusals.specs.declared.Refusal.{Refusal}
+use Rattle.refusals.specs.Numbers.{number_of}
+use Rattle.refusals.proofs.Refuses.{refuses}
+use Rattle.search.specs.declared.Found.{Found}
+use Rattle.search.specs.Told.{search_told}
+use Rattle.sheets.specs.declared.reading.Job.{Job}
+use Rattle.sheets.specs.Told.{read_told}
+use Rattle.sheets.specs.Writing.{in_front}
+use Rattle.rules.specs.Read.{SheetRead}
+use Rattle.rules.specs.Search.{Searched}
+use Rattle.rules.specs.Line.{refused_line, own_room, JobLine, SheetLine, Lined, LineMade}
+use Rattle.lines.specs.Told.{line_told}
 
 -- a line that was put in front of a room of 119 bytes
-pub made : (s before line : List ℕ) → SheetLine s line → length before ≡ 119 → length line ≤ 119 → (r : Lined) → r.length ≡ length line → r.room ≡ sets before 0 line
+pub made : (s before line : List ℕ) → SheetLine s line → length line ≤ 119 → (r : Lined) → r.length ≡ length line → r.room ≡ in_front line before
     → LineMade s before r
-made s before line of long fits r e f = record {
-  line = line;
-  of_sheet = of;
-  front = f ∙ sets-eq line before 0 (omega arith) ∙ ap (λ (i : ℕ). line ++ drop i before) (zero-add (length line));
-  long = e;
-  at_most = omega arith;
-}
+made s before line of fits r long front = record { line = line; of_sheet = of; front = front; long = long; at_most = omega arith }
 
-module _ (s : List ℕ) (job : Job) (R : SheetRead s own_room job) where
-  pub no_job : (job.number ≡ 0 → ⊥) → SheetLine s (refused_line job.number)
-  no_job n = record { job = job; read = R; refused = λ _. refl; searched = λ z. absurd (n z) }
+-- the line of a refusal
+pub refusal_line : (s room : List ℕ) (refusal : Refusal) → SheetRead s own_room (read_told (Err refusal) room)
+    → SheetLine s (refused_line (number_of refusal))
+refusal_line s room refusal R =
+    record { job = read_told (Err refusal) room; read = R; refused = λ _. refl; searched = λ z. absurd (refuses refusal z) }
 
-  pub a_job : job.number ≡ 0 → (f : Found) → Searched job.bins (take job.outlets job.room) job.budget own_room f
-      → SheetLine s (answer_line f.number (take job.outlets f.room) f.count f.cases)
-  a_job z f S = record { job = job; read = R; refused = λ n. absurd (n z); searched = λ _. record { found = f; searched = S; says = refl } }
+-- the line of what the search of a job answers
+module _ (s room : List ℕ) (job : Job) (R : SheetRead s own_room (read_told (Ok job) room)) where
+  job_line : (order : List ℕ) (answer : Result Found Refusal)
+      → Searched job.bins (take job.outlets room) job.budget own_room (search_told answer order)
+      → JobLine (read_told (Ok job) room) (line_told answer (take job.outlets order))
+  job_line order (Ok found) S = record { found = search_told (Ok found) order; searched = S; says = refl }
+  job_line order (Err refusal) S = record { found = search_told (Err refusal) order; searched = S; says = refl }
+
+  pub answered_line : (order : List ℕ) (answer : Result Found Refusal)
+      → Searched job.bins (take job.outlets room) job.budget own_room (search_told answer order)
+      → SheetLine s (line_told answer (take job.outlets order))
+  answered_line order answer S =
+      record { job = read_told (Ok job) room; read = R; refused = λ n. absurd (n refl); searched = λ _. job_line order answer S }
 
 -- for callers: the line lies within the room
 pub within : (s before : List ℕ) (r : Lined) → LineMade s before r → r.length ≤ length r.room

@@ -1,2 +1,3 @@
 -- What the contracts inside this crate cite: the parts of a line that are written one after another.
 pub mod Parts
+pub mod Told

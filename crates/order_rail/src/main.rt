@@ -5,26 +5,29 @@ ghost use Rattle.std.specs.Prelude.{◌≤◌, length, IfOk};
 
 use std::io::{self, Read, Write};
 
-// Reads until the room is full or the input ends, and answers how many bytes it put at the front of the room.
-fn read_full(rt: &impl Input, room: &mut [u8]) -> io::Result<usize>
-    ensures { IfOk result (λ n. n ≤ length room.new) }
+// The longest sheet has 7 + 32 x 68 bytes.
+const LONGEST_SHEET: usize = 2183;
+
+// Reads until the room is full or the input ends, and answers what it read: the front of the room. A loop over `read`, since
+// `read_exact` doesn't say how much there was, and `read_to_end` allocates.
+fn read_full<'a>(input: &mut impl Read, room: &'a mut [u8]) -> io::Result<&'a [u8]>
+    ensures { IfOk result (λ sheet. length sheet.now ≤ length room.old) }
 {
     let mut done = 0;
     while done < room.len() {
-        let read = rt.reader().read(&mut room[done..])?;
-        if read == 0 {
-            break;
+        match input.read(&mut room[done..])? {
+            0 => break,
+            read => done += read,
         }
-        done += read;
     }
-    Ok(done)
+    Ok(&room[..done])
 }
 
 fn main(rt: HostRuntime) -> io::Result<()> {
     // one byte more than the longest sheet is enough
-    let mut sheet = [0u8; 2184];
-    let read = read_full(&rt, &mut sheet)?;
-    let mut room = [0u8; 119];
-    let length = lines::line(&sheet[..read], &mut room);
-    io::writer(&rt).write_all(&room[..length])
+    let mut room = [0; LONGEST_SHEET + 1];
+    let sheet = read_full(&mut rt.reader(), &mut room)?;
+    let mut line = [0; 119];
+    let length = lines::line(sheet, &mut line);
+    io::writer(&rt).write_all(&line[..length])
 }

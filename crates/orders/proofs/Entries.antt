@@ -8,6 +8,7 @@ use native.Mathlib.Omega.{arith}
 use lib.Dec.{eqb}
 use lib.ListN.{length, get_or}
 use borrow.Author.Tests.{le-leb, lt-leb, leb-false, eq-eqb, ne_eqb, eqb-false, not-true, not-false}
+use Rattle.std.specs.Prelude.{Option, Some, None, MatchOption, is_some}
 use Rattle.rules.specs.Sum.{sum, every, least}
 use Rattle.rules.specs.Crossing.{times, IsOrder}
 use Rattle.rules.specs.Numbers.{not_an_order}
@@ -110,3 +111,9 @@ module _ (n : ℕ) (row : List ℕ) where
   pub length_not_order : (length row ≡ n → ⊥) → not_an_order n row ≡ true
   unfolding not_an_order
   length_not_order d = rw (ne_eqb (length row) n d)
+
+  -- so the place of the first bad entry tells it, for a row of the rail's length
+  pub told_by_place : length row ≡ n → (r : Option ℕ)
+      → MatchOption r (first_bad n row ≡ length row) (λ place. (place ≡ first_bad n row) × (place < length row)) → is_some r ≡ not_an_order n row
+  told_by_place e None none = sym (none_bad_order e (omega arith))
+  told_by_place e (Some place) found = sym (bad_not_order (omega arith))

@@ -3,7 +3,7 @@ use mathlib.Core.Path.{◌≡◌, refl, sym, ◌∙◌, ap, ap₂}
 use mathlib.Core.Bool.{Bool, true, false, not, ◌&&◌, ◌||◌, and-true, and-false, and-not_self, or-false}
 use mathlib.Core.List.{List}
 use mathlib.Core.Logic.{◌⊎◌, inl, inr}
-use Prim.Native.Nat.{ℕ, ◌+◌, ◌*◌, ◌^◌, ◌<◌}
+use Prim.Native.Nat.{ℕ, ◌^◌, ◌<◌}
 use native.Mathlib.Omega.{arith}
 use native.Mathlib.Nat.{eq-zero-or-pos}
 use native.Mathlib.Decide.{ℕ_discrete}
@@ -109,14 +109,14 @@ module _ (rail : List ℕ) (a b : ℕ) (ha : get_or rail a 0 < 2 ^ 64) (hb : get
   -- where the sets do not decide, the costs do
   module _ (costs : List ℕ) (table : CostsOf rail costs) (la : a < length rail) (lb : b < length rail)
       (n : get_or rail a 0 ≡ get_or rail b 0 → ⊥) (na : get_or rail a 0 ≡ 0 → ⊥) (nb : get_or rail b 0 ≡ 0 → ⊥) where
-    by_costs : root rail a b ≡ (eqb (get_or costs (32 * a + b) 0) 0 && ltb 0 (get_or costs (32 * b + a) 0))
-    unfolding cost outlet cost_in
+    by_costs : root rail a b ≡ (eqb (cost_in costs a b) 0 && ltb 0 (cost_in costs b a))
+    unfolding cost outlet
     by_costs =
         root_by_sets rail a b ∙ sets_both (get_or rail a 0) (get_or rail b 0) (ltb a b) ha hb na nb n
         ∙ ap₂ (λ (p q : ℕ). eqb p 0 && ltb 0 q) (sym (table.pairs a b la lb)) (sym (table.pairs b a lb la))
 
-    pub root_dear : (get_or costs (32 * a + b) 0 ≡ 0 → ⊥) → root rail a b ≡ false
-    root_dear d = by_costs ∙ rw (ne_eqb (get_or costs (32 * a + b) 0) 0 d)
+    pub root_dear : (cost_in costs a b ≡ 0 → ⊥) → root rail a b ≡ false
+    root_dear d = by_costs ∙ rw (ne_eqb (cost_in costs a b) 0 d)
 
-    pub root_free : get_or costs (32 * a + b) 0 ≡ 0 → root rail a b ≡ not (eqb (get_or costs (32 * b + a) 0) 0)
-    root_free e = by_costs ∙ rw (eq-eqb (get_or costs (32 * a + b) 0) 0 e, above (get_or costs (32 * b + a) 0))
+    pub root_free : cost_in costs a b ≡ 0 → root rail a b ≡ not (eqb (cost_in costs b a) 0)
+    root_free e = by_costs ∙ rw (eq-eqb (cost_in costs a b) 0 e, above (cost_in costs b a))

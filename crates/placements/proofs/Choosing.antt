@@ -2,11 +2,11 @@
 -- so that none says that a has no partner, and the lowest is the partner.
 use mathlib.Core.Bool.{Bool, true, false, not, ◌&&◌}
 use mathlib.Core.List.{List}
-use mathlib.Core.Path.{◌≡◌, refl, sym, ◌∙◌, ap, subst}
-use Prim.Native.Nat.{ℕ, ◌+◌, ◌*◌, ◌^◌, ◌≤◌, ◌<◌}
+use mathlib.Core.Path.{◌≡◌, refl, sym, ◌∙◌, ap}
+use Prim.Native.Nat.{ℕ, ◌*◌, ◌^◌, ◌≤◌, ◌<◌}
 use native.Mathlib.Omega.{arith}
 use native.Mathlib.Nat.{lt_of_lt_of_le}
-use native.Mathlib.Decide.{dec_lt, ℕ_discrete}
+use native.Mathlib.Decide.{dec_lt}
 use borrow.Author.Tests.{ltb-true, ltb-false, lt-ltb, le-ltb}
 use lib.Count.{count_trailing_zeros}
 use lib.Dec.{eqb, ltb}
@@ -34,14 +34,6 @@ OpenAt masks rows a set = (b : ℕ) → b < 32 → has set b ≡ opens masks row
 -- nothing is handed over of the outlets from a start to a
 abbrev pub PassedFrom : List ℕ → List ℕ → ℕ → ℕ → Type 0
 PassedFrom masks rows from a = (i : ℕ) → from ≤ i → i < a → OpenAt masks rows i 0
-
-pub passed_more : (masks rows : List ℕ) (from a set : ℕ) → set ≡ 0 → OpenAt masks rows a set → PassedFrom masks rows from a
-    → PassedFrom masks rows from (a + 1)
-passed_more masks rows from a set e at none i l h =
-    elim (ℕ_discrete a i) [
-      | yes same ↦ subst (λ (j : ℕ). OpenAt masks rows j 0) same (subst (OpenAt masks rows a) e at)
-      | no other ↦ none i l (omega arith)
-    ]
 
 regroup : (p q r s : Bool) → (p && (q && r) && s) ≡ (p && (q && (s && r)))
 regroup true true true true = refl

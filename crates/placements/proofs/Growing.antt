@@ -5,8 +5,7 @@ use mathlib.Core.Path.{◌≡◌, refl, sym, ◌∙◌, ap, ap₂, subst⁻¹, f
 use Prim.Native.Nat.{ℕ, ◌+◌, ◌-◌, ◌*◌, ◌/◌, ◌%◌, ◌^◌, ◌≤◌, ◌<◌, min, max}
 use native.Mathlib.Omega.{arith}
 use native.Mathlib.Decide.{ℕ_discrete, dec_lt}
-use lib.Bits.{bit_and, bit_or, or_lt}
-use lib.Count.{count_trailing_zeros}
+use lib.Bits.{bit_or, or_lt}
 use lib.Dec.{eqb}
 use lib.ListN.{length, get_or, set, length-set, get_or-eq_default}
 use lib.Seq.{get_or-set_same, get_or-set_other}
@@ -14,12 +13,19 @@ use Rattle.rules.specs.Crossing.{Relation, bit}
 use Rattle.rules.specs.Placement.{place}
 use Rattle.laws.proofs.Terms.{Strict}
 use Rattle.laws.proofs.Placing.{strict}
-use Rattle.hoses.proofs.Bits.{bit-most, bit-none, bit-beyond, bit-or, lowest_within, lowest_set, gone_same, gone_other}
+use Rattle.hoses.proofs.Bits.{bit-most, bit-none, bit-beyond, bit-or}
 use Rattle.placements.specs.Rows.{reads, Rows, Grown, Brings, PlacedIn}
-use Rattle.placements.proofs.Masks.{has, either_bit, both_bits}
+use Rattle.placements.specs.declared.closure.Side.{Side}
+use Rattle.placements.specs.declared.closure.Side.TheVariants.{Right, Left}
+use Rattle.placements.specs.Sides.{side_number}
+use Rattle.placements.proofs.Masks.{Taken, has, either_bit, both_bits}
 use Rattle.placements.proofs.Closing.{closed}
 
 -- ---- one outlet after the other
+
+pub two_sides : (side : Side) → side_number side < 2
+two_sides Right = omega arith
+two_sides Left = omega arith
 
 pub grown_none : (rows : List ℕ) (more side : ℕ) → Grown rows 0 more side rows
 grown_none rows more side =
@@ -30,45 +36,34 @@ grown_none rows more side =
       other = λ u h. refl;
     }
 
--- the row of the lowest outlet in `which`, on one side, and the rows in which that one has grown
-abbrev pub lowest_row : ℕ → ℕ → ℕ
-lowest_row which side = 2 * count_trailing_zeros 32 which + side
-
-abbrev pub grown_once : List ℕ → ℕ → ℕ → ℕ → List ℕ
-grown_once rows which more side = set rows (lowest_row which side) (bit_or (get_or rows (lowest_row which side) 0) more)
-
 -- what is left to grow then was left before
-pub grown_step : (rows : List ℕ) (which more side : ℕ) (final : List ℕ) → 0 < which → which < 2 ^ 32 → side < 2 → length rows ≡ 64
-    → Grown (grown_once rows which more side) (bit_and which (which - 1)) more side final → Grown rows which more side final
-grown_step rows which more side final some within sides size rest =
+pub grown_step : (rows : List ℕ) {which low later : ℕ} (more side : ℕ) (final : List ℕ) → Taken which low later → side < 2 → length rows ≡ 64
+    → Grown (set rows (2 * low + side) (bit_or (get_or rows (2 * low + side) 0) more)) later more side final → Grown rows which more side final
+grown_step rows {which} {low} {later} more side final t sides size rest =
     record {
-      size = rest.size ∙ length-set rows (lowest_row which side) _;
+      size = rest.size ∙ length-set rows (2 * low + side) _;
       grew = λ u h e.
           elim (ℕ_discrete u low) [
             | yes s ↦ here u s
-            | no d ↦ rest.grew u h (gone_other 32 which u some within d ∙ e) ∙ ap (λ (n : ℕ). bit_or n more) (apart u d)
+            | no d ↦ rest.grew u h (t.apart u d ∙ e) ∙ ap (λ (n : ℕ). bit_or n more) (apart u d)
           ];
-      kept = λ u h e. let d : u ≡ low → ⊥ = unset u e in rest.kept u h (gone_other 32 which u some within d ∙ e) ∙ apart u d;
+      kept = λ u h e. let d : u ≡ low → ⊥ = unset u e in rest.kept u h (t.apart u d ∙ e) ∙ apart u d;
       other = λ u h. rest.other u h ∙ elsewhere (2 * u + (1 - side)) (λ e. omega arith);
     }
   where
-    low : ℕ
-    low = count_trailing_zeros 32 which
+    elsewhere : (i : ℕ) → (i ≡ 2 * low + side → ⊥) → get_or (set rows (2 * low + side) (bit_or (get_or rows (2 * low + side) 0) more)) i 0 ≡ get_or rows i 0
+    elsewhere i d = get_or-set_other rows (2 * low + side) i _ 0 d
 
-    elsewhere : (i : ℕ) → (i ≡ lowest_row which side → ⊥) → get_or (grown_once rows which more side) i 0 ≡ get_or rows i 0
-    elsewhere i d = get_or-set_other rows (lowest_row which side) i _ 0 d
-
-    apart : (u : ℕ) → (u ≡ low → ⊥) → get_or (grown_once rows which more side) (2 * u + side) 0 ≡ get_or rows (2 * u + side) 0
+    apart : (u : ℕ) → (u ≡ low → ⊥) → get_or (set rows (2 * low + side) (bit_or (get_or rows (2 * low + side) 0) more)) (2 * u + side) 0 ≡ get_or rows (2 * u + side) 0
     apart u d = elsewhere (2 * u + side) (λ e. d (omega arith))
 
     unset : (u : ℕ) → bit which u ≡ 0 → u ≡ low → ⊥
-    unset u e s = omega (arith, ap (bit which) s, lowest_set 32 which (lowest_within 32 which some within))
+    unset u e s = omega (arith, ap (bit which) s, t.set)
 
     here : (u : ℕ) → u ≡ low → get_or final (2 * u + side) 0 ≡ bit_or (get_or rows (2 * u + side) 0) more
     here u s =
         subst⁻¹ (λ (w : ℕ). get_or final (2 * w + side) 0 ≡ bit_or (get_or rows (2 * w + side) 0) more) s
-        (rest.kept low (lowest_within 32 which some within) (gone_same 32 which some within)
-        ∙ get_or-set_same rows (lowest_row which side) _ 0 (omega (arith, lowest_within 32 which some within)))
+        (rest.kept low t.outlet t.unset ∙ get_or-set_same rows (2 * low + side) _ 0 (omega (arith, t.outlet)))
 
 -- ---- what grown rows hold
 

@@ -5,13 +5,14 @@ use Prim.Native.Nat.{ℕ, zero, suc, ◌+◌, ◌-◌, ◌*◌, ◌%◌, ◌^◌
 use native.Mathlib.Omega.{arith}
 use native.Mathlib.Decide.{ℕ_discrete, dec_lt}
 use borrow.Author.Tests.{eq-eqb, ne_eqb, eqb-false}
-use lib.Bits.{bit_and, bit_or, or_lt}
-use lib.Count.{count_trailing_zeros}
+use lib.Bits.{bit_and, bit_or, or_lt, and_le_l}
 use lib.Dec.{eqb}
-use lib.Pow.{pow-lt, pow_pos}
-use Rattle.rules.specs.Sum.{only_if}
+use lib.Pow.{pow-lt}
+use Rattle.rules.specs.Sum.{sum, only_if}
 use Rattle.rules.specs.Crossing.{bit}
-use Rattle.hoses.proofs.Bits.{bit-most, bit-none, bit-beyond, bits_none, bit-and, bit-or, bit_not, shl_one, bit_one_same, bit_one_other, lowest_gone}
+use Rattle.std.proofs.Common.{Some}
+use Rattle.hoses.specs.Ones.{LowestFirst}
+use Rattle.hoses.proofs.Bits.{bit-most, bit-none, bit-beyond, bits_none, bit-and, bit-or, bit_not, shl_one, bit_one_same, bit_one_other, lowest_same, lowest_within, lowest_set, gone_same, gone_other, sum_lowest}
 
 abbrev pub has : ℕ → ℕ → Bool
 has m x = eqb (bit m x) 1
@@ -84,9 +85,27 @@ has_with_without w m x other y hm hx ho =
     ∙ ap (λ (t : Bool). t && not (has other y))
     (has_or m (2 ^ x) y ∙ or_comm (has m y) (has (2 ^ x) y) ∙ ap (λ (t : Bool). t || has m y) (has_one x y))
 
--- m & (m - 1) is less than m
-pub gone_less : (w m : ℕ) → 0 < m → m < 2 ^ w → bit_and m (m - 1) < m
-gone_less w m some within = omega (arith, lowest_gone w m some within, pow_pos (count_trailing_zeros w m))
+-- What a turn along the ones of a mask says, which takes them as those of a number of 64 bits: the lowest outlet that is left goes, and no other.
+pub record Taken (rest u later : ℕ) : Type 0 where
+  pub outlet : u < 32
+  pub left : later < 2 ^ 32
+  pub set : bit rest u ≡ 1
+  pub unset : bit later u ≡ 0
+  pub apart : (x : ℕ) → (x ≡ u → ⊥) → bit later x ≡ bit rest x
+  pub shares : (g : ℕ → ℕ) → sum (λ x. bit rest x * g x) 32 ≡ g u + sum (λ x. bit later x * g x) 32
+
+pub taken : {rest u later : ℕ} → rest < 2 ^ 32 → LowestFirst rest (Some u) later → Taken rest u later
+taken {rest} within (some, lowest, gone) =
+    let t = lowest_within 32 rest some within in
+    rw (gone, lowest, lowest_same 64 32 rest some (omega arith) within)
+    (record {
+      outlet = t;
+      left = omega (arith, and_le_l rest (rest - 1));
+      set = lowest_set 32 rest t;
+      unset = gone_same 32 rest some within;
+      apart = λ x n. gone_other 32 rest x some within n;
+      shares = λ g. sum_lowest g 32 rest some within;
+    })
 
 -- a bit times a number is the number where the bit is set
 pub bit_counts : (m x k : ℕ) → bit m x * k ≡ only_if (has m x) k

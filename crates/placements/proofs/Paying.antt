@@ -7,7 +7,6 @@ use native.Mathlib.Omega.{arith}
 use native.Mathlib.Nat.{zero-mul, mul-le-mul}
 use native.Mathlib.Numerals.{add-one}
 use lib.Bits.{bit_and}
-use lib.Count.{count_trailing_zeros}
 use lib.Dec.{eqb, ltb}
 use lib.ListN.{get_or}
 use borrow.Author.Tests.{lt-ltb, ltb-true}
@@ -17,10 +16,10 @@ use Rattle.rules.specs.Placement.{place, price, spent}
 use Rattle.rules.specs.Walk.{unplaced, equal_costs}
 use Rattle.rules.proofs.Sums.{and_left, sum_cong, sum-none, sum_rest, pair_sum_cong, only_if_not, only_if_and, sum_only_if}
 use Rattle.laws.proofs.Tests.{not_passed}
-use Rattle.hoses.proofs.Bits.{bit-most, bit-none, sum_lowest}
+use Rattle.hoses.proofs.Bits.{bit-most, bit-none}
 use Rattle.tables.specs.Tables.{cost_in, Costs, Masks}
 use Rattle.placements.specs.Rows.{reads, Rows, Within, Brings}
-use Rattle.placements.proofs.Masks.{has, has_without, bit_counts}
+use Rattle.placements.proofs.Masks.{Taken, has, has_without, bit_counts}
 use Rattle.placements.proofs.Reading.{open_of, has_open, left_within, right_within}
 use Rattle.placements.proofs.Closing.{new_left, new_right, closed_new}
 
@@ -29,10 +28,10 @@ unfoldable pub to_pay : (ℕ → ℕ) → ℕ → ℕ
 to_pay g which = sum (λ x. bit which x * g x) 32
 
 -- what was paid and what those left have to pay stays the same while the lowest one pays,
-pub paid_on : (g : ℕ → ℕ) (left r all paid : ℕ) → 0 < left → left < 2 ^ 32 → r ≡ g (count_trailing_zeros 32 left) → paid + to_pay g left ≡ all
-    → paid + r + to_pay g (bit_and left (left - 1)) ≡ all
+pub paid_on : (g : ℕ → ℕ) {left u later : ℕ} (r all paid : ℕ) → Taken left u later → r ≡ g u → paid + to_pay g left ≡ all
+    → paid + r + to_pay g later ≡ all
 unfolding to_pay
-paid_on g left r all paid some within own before = omega (arith, sum_lowest g 32 left some within)
+paid_on g r all paid t own before = omega (arith, t.shares g)
 
 -- and where none is left, all is paid
 pub paid-all : (g : ℕ → ℕ) (left all paid : ℕ) → left ≡ 0 → paid + to_pay g left ≡ all → paid ≡ all
@@ -81,6 +80,16 @@ to_pay_within g which n t h same within =
 -- right & !rows[2 * u]
 abbrev pub new_of : ℕ → List ℕ → ℕ → ℕ
 new_of right rows u = bit_and right ((2 ^ 32 - 1) - get_or rows (2 * u) 0)
+
+-- what u pays, by a table: for those on its right, for those above it that are unplaced with it, and for those that are new on its right
+abbrev pub placed_pays : List ℕ → List ℕ → ℕ → ℕ
+placed_pays rows costs u = to_pay (cost_in costs u) (get_or rows (2 * u) 0)
+
+abbrev pub unplaced_pays : List ℕ → List ℕ → List ℕ → ℕ → ℕ
+unplaced_pays rows masks costs u = to_pay (cost_in costs u) (open_of (get_or masks (2 * u + 1) 0) rows u)
+
+abbrev pub new_pays : List ℕ → List ℕ → ℕ → ℕ → ℕ
+new_pays rows costs right u = to_pay (cost_in costs u) (new_of right rows u)
 
 module _ (n : ℕ) (c : Cost) (small : n ≤ 32) where
   -- each outlet below n pays for those in its row

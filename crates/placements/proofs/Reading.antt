@@ -14,6 +14,9 @@ use Rattle.rules.specs.Walk.{unplaced}
 use Rattle.rules.proofs.Sums.{and_left, and_right}
 use Rattle.laws.proofs.Tests.{or_cases, eq_or_cases}
 use Rattle.placements.specs.Rows.{reads, Rows, Within, PlacedIn}
+use Rattle.placements.specs.declared.closure.Side.{Side}
+use Rattle.placements.specs.declared.closure.Side.TheVariants.{Right, Left}
+use Rattle.placements.specs.Sides.{side_number, stands_on}
 use Rattle.placements.proofs.Masks.{has, has_and, has_or, has_not, has_without}
 
 pub has_right : (rows : List ℕ) (u v : ℕ) → has (get_or rows (2 * u) 0) v ≡ reads rows u v
@@ -23,6 +26,11 @@ has_right rows u v = refl
 pub has_left : (rows : List ℕ) → Rows rows → (u v : ℕ) → has (get_or rows (2 * u + 1) 0) v ≡ reads rows v u
 unfolding reads
 has_left rows held u v = ap (λ (n : ℕ). eqb n 1) (held.turned u v)
+
+-- on either side
+pub has_beside : (rows : List ℕ) → Rows rows → (side : Side) → (u w : ℕ) → has (get_or rows (2 * u + side_number side) 0) w ≡ stands_on side rows w u
+has_beside rows held Right u w = let even : 2 * u + 0 ≡ 2 * u = omega arith in rw even (has_right rows u w)
+has_beside rows held Left u w = has_left rows held u w
 
 -- mask & !(rows[2 * u] | rows[2 * u + 1])
 abbrev pub open_of : ℕ → List ℕ → ℕ → ℕ

@@ -1,2 +1,3 @@
 -- What the rows of bits say: the relation that they hold.
 pub mod Rows
+pub mod Sides

@@ -1,12 +1,15 @@
 // The base placements of a rail, as rows.
-ghost use Rattle.std.specs.Prelude.{◌≡◌, ◌+◌, ◌*◌, ◌<◌, ◌≤◌, length, replicate};
+ghost use Rattle.std.specs.Prelude.{◌≡◌, ◌<◌, ◌≤◌, length};
 ghost use Rattle.rules.specs.Rail.{root};
 ghost use Rattle.tables.specs.Tables.{CostsOf};
-ghost use Rattle.placements.specs.Rows.{Put, BaseTo, BaseOf};
+ghost use Rattle.placements.specs.Rows.{Put, BaseOf};
+
+use super::Relation;
+use tables::CostTable;
 
 // Does the base place outlet a left of outlet b?
-fn left_of(outlets: &[u64], costs: &[u16; 1024], a: usize, b: usize) -> bool
-    requires { (length outlets.now ≤ 32) × (a < length outlets.now) × (b < length outlets.now) × CostsOf outlets.now costs.now }
+fn goes_first(outlets: &[u64], costs: &CostTable, a: usize, b: usize) -> bool
+    requires { (length outlets.now ≤ 32) × (a < length outlets.now) × (b < length outlets.now) × CostsOf outlets.now costs.now.pairs }
     ensures { result ≡ root outlets.now a b }
 {
     let x = outlets[a];
@@ -20,10 +23,10 @@ fn left_of(outlets: &[u64], costs: &[u16; 1024], a: usize, b: usize) -> bool
     if y == 0 {
         return true;
     }
-    if costs[32 * a + b] != 0 {
+    if costs.cost(a, b) != 0 {
         return false;
     }
-    costs[32 * b + a] != 0
+    costs.cost(b, a) != 0
 }
 
 // a stands left of b, in the rows of both.
@@ -35,36 +38,23 @@ fn put(rows: &mut [u32; 64], a: usize, b: usize)
     rows[2 * b + 1] |= 1 << a;
 }
 
-// The pair of u and a smaller v, placed one way, the other way or not at all.
-fn settle(outlets: &[u64], costs: &[u16; 1024], u: usize, v: usize, rows: &mut [u32; 64])
-    requires { (length outlets.now ≤ 32) × (u < length outlets.now) × (v < u) × CostsOf outlets.now costs.now
-        × BaseTo outlets.now (32 * u + v) rows.old }
-    ensures { BaseTo outlets.now (32 * u + v + 1) rows.new }
-{
-    if left_of(outlets, costs, u, v) {
-        put(rows, u, v);
-    } else if left_of(outlets, costs, v, u) {
-        put(rows, v, u);
-    }
-}
-
-// The pairs of u and each smaller number.
-fn beside(outlets: &[u64], costs: &[u16; 1024], u: usize, rows: &mut [u32; 64])
-    requires { (length outlets.now ≤ 32) × (u < length outlets.now) × CostsOf outlets.now costs.now
-        × BaseTo outlets.now (32 * u) rows.old }
-    ensures { BaseTo outlets.now (32 * (u + 1)) rows.new }
-{
-    for v in 0..u {
-        settle(outlets, costs, u, v, rows);
-    }
-}
-
-// Both rows of each outlet, into rows of zeros.
-pub fn fill(outlets: &[u64], costs: &[u16; 1024], rows: &mut [u32; 64])
-    requires { (length outlets.now ≤ 32) × CostsOf outlets.now costs.now × (rows.old ≡ replicate 64 0) }
-    ensures { BaseOf outlets.now rows.new }
-{
-    for u in 0..outlets.len() {
-        beside(outlets, costs, u, rows);
+impl Relation {
+    // The base placements of a rail: of each two outlets one way, the other way or none.
+    // They are put into rows, since a relation would be copied once more.
+    pub fn base(outlets: &[u64], costs: &CostTable) -> Relation
+        requires { (length outlets.now ≤ 32) × CostsOf outlets.now costs.now.pairs }
+        ensures { BaseOf outlets.now result.rows }
+    {
+        let mut rows = [0; 64];
+        for u in 0..outlets.len() {
+            for v in 0..u {
+                if goes_first(outlets, costs, u, v) {
+                    put(&mut rows, u, v);
+                } else if goes_first(outlets, costs, v, u) {
+                    put(&mut rows, v, u);
+                }
+            }
+        }
+        Relation { rows }
     }
 }

@@ -1,59 +1,56 @@
 // The pair that a case takes: of the unplaced pairs whose two cross values differ the one with the smallest a, then the smallest b.
 // And whether a placement leaves a pair.
-ghost use Rattle.std.specs.Prelude.{◌&&◌, ◌≡◌, ℕ, ◌*◌, ◌<◌, ◌≤◌, eqb, get_or};
+ghost use Rattle.std.specs.Prelude.{◌&&◌, ◌≡◌, ℕ, ◌*◌, ◌<◌, ◌≤◌, eqb, get_or, IfSome, unwrap_or};
 ghost use Rattle.rules.specs.Crossing.{bit};
 ghost use Rattle.rules.specs.Walk.{unplaced};
 ghost use Rattle.placements.specs.Rows.{reads, Rows, ChosenIn, PartnerIn, LeavesUnplaced};
 
-use super::Placement;
+use super::{Placement, Relation};
+use tables::Tables;
 
-// The outlets above a that are unplaced with it and whose cross values with it differ.
-fn open(rows: &[u32; 64], masks: &[u32; 64], a: usize) -> u32
-    requires { (a < 32) × Rows rows.now }
-    ensures { (v : ℕ) → v < 32 → eqb (bit result v) 1 ≡ (eqb (bit (get_or masks.now (2 * a) 0) v) 1 && unplaced (reads rows.now) a v) }
-{
-    masks[2 * a] & !(rows[2 * a] | rows[2 * a + 1])
-}
-
-// The smallest a of such a pair, from a place on before which there is none; n where there is none at all.
-pub fn chosen(rows: &[u32; 64], masks: &[u32; 64], from: usize, n: usize) -> usize
-    requires { (n ≤ 32) × (from ≤ n) × Rows rows.now }
-    ensures { ChosenIn n masks.now rows.now from result }
-{
-    let mut a = from;
-    while a < n {
-        if open(rows, masks, a) != 0 {
-            return a;
-        }
-        a += 1;
+impl Relation {
+    // The outlets above a that are unplaced with it and whose cross values with it differ.
+    fn open(&self, tables: &Tables, a: usize) -> u32
+        requires { (a < 32) × Rows self.now.rows }
+        ensures { (v : ℕ) → v < 32
+            → eqb (bit result v) 1 ≡ (eqb (bit (get_or tables.now.masks.now (2 * a) 0) v) 1 && unplaced (reads self.now.rows) a v) }
+    {
+        tables.differing(a) & !self.placed_with(a)
     }
-    n
-}
 
-// The smallest b beside a.
-pub fn partner(rows: &[u32; 64], masks: &[u32; 64], a: usize) -> usize
-    requires { (a < 32) × Rows rows.now }
-    ensures { PartnerIn masks.now rows.now a result }
-{
-    u32::trailing_zeros(open(rows, masks, a)) as usize
-}
-
-// Does a placement leave an outlet unplaced with another? Of those that it does not touch some are looked at, so that only a yes says something.
-pub fn leaves_unplaced(
-    rows: &[u32; 64],
-    masks: &[u32; 64],
-    placement: Placement,
-    from: usize,
-    n: usize,
-) -> bool
-    requires { (n ≤ 32) × Rows rows.now }
-    ensures { LeavesUnplaced n masks.now rows.now placement.left placement.right result }
-{
-    let touched = placement.left | placement.right;
-    for u in from..n {
-        if masks[1] & !(rows[2 * u] | rows[2 * u + 1] | touched | 1 << u) != 0 {
-            return true;
+    // The smallest a of such a pair, from a place on before which there is none.
+    pub fn chosen(&self, tables: &Tables, from: usize) -> Option<usize>
+        requires { (from ≤ tables.now.costs.now.outlets) × Rows self.now.rows }
+        ensures first { let n = tables.now.costs.now.outlets in ChosenIn n tables.now.masks.now self.now.rows from (unwrap_or result n) }
+        ensures below { IfSome result (λ a. a < tables.now.costs.now.outlets) }
+    {
+        for a in from..tables.costs.outlets {
+            if self.open(tables, a) != 0 {
+                return Some(a);
+            }
         }
+        None
     }
-    false
+
+    // The smallest b beside a.
+    pub fn partner(&self, tables: &Tables, a: usize) -> usize
+        requires { (a < 32) × Rows self.now.rows }
+        ensures { PartnerIn tables.now.masks.now self.now.rows a result }
+    {
+        u32::trailing_zeros(self.open(tables, a)) as usize
+    }
+
+    // Does a placement leave an outlet unplaced with another? Of those that it does not touch some are looked at, so that only a yes says something.
+    pub fn leaves_unplaced(&self, tables: &Tables, placement: Placement, from: usize) -> bool
+        requires { Rows self.now.rows }
+        ensures { LeavesUnplaced tables.now.costs.now.outlets tables.now.masks.now self.now.rows placement.left placement.right result }
+    {
+        let touched = placement.left | placement.right;
+        for u in from..tables.costs.outlets {
+            if tables.above(0) & !(self.placed_with(u) | touched | 1 << u) != 0 {
+                return true;
+            }
+        }
+        false
+    }
 }

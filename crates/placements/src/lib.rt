@@ -8,13 +8,11 @@ mod closure;
 mod price;
 mod stand;
 
-ghost use Rattle.std.specs.Prelude.{◌++◌, ◌≡◌, ℕ, ◌<◌, ◌≤◌, length, drop};
-ghost use Rattle.rules.specs.Walk.{made};
-ghost use Rattle.tables.specs.Tables.{CostsOf};
-ghost use Rattle.placements.specs.Rows.{reads, Rows, Brings, PlacedIn, Within, BaseOf};
+ghost use Rattle.std.specs.Prelude.{◌≡◌, ℕ, ◌+◌, ◌*◌, ◌<◌, length, get_or};
+ghost use Rattle.std.specs.Int.Bits.{bit_or};
+ghost use Rattle.placements.specs.Rows.{reads, Rows, Brings, PlacedIn};
 
-pub use choice::{chosen, leaves_unplaced, partner};
-pub use price::{equal_costs, price_of, spent};
+use closure::Side;
 
 #[derive(Clone, Copy)]
 pub struct Relation {
@@ -44,14 +42,28 @@ impl Relation {
         Relation { rows: copy }
     }
 
-    // The base placements of a rail.
-    pub fn base(outlets: &[u64], costs: &[u16; 1024]) -> Relation
-        requires { (length outlets.now ≤ 32) × CostsOf outlets.now costs.now }
-        ensures { BaseOf outlets.now result.rows }
+    // Those that stand right of u.
+    fn right_of(&self, u: usize) -> u32
+        requires { u < 32 }
+        ensures { result ≡ get_or self.now.rows (2 * u) 0 }
     {
-        let mut rows = [0; 64];
-        base::fill(outlets, costs, &mut rows);
-        Relation { rows }
+        self.rows[2 * u]
+    }
+
+    // Those that stand left of u.
+    fn left_of(&self, u: usize) -> u32
+        requires { u < 32 }
+        ensures { result ≡ get_or self.now.rows (2 * u + 1) 0 }
+    {
+        self.rows[2 * u + 1]
+    }
+
+    // Those that are placed with u, on either side.
+    fn placed_with(&self, u: usize) -> u32
+        requires { u < 32 }
+        ensures { result ≡ bit_or (get_or self.now.rows (2 * u) 0) (get_or self.now.rows (2 * u + 1) 0) }
+    {
+        self.right_of(u) | self.left_of(u)
     }
 
     // Is a placed left of b?
@@ -59,7 +71,7 @@ impl Relation {
         requires { (a < 32) × (b < 32) }
         ensures { result ≡ reads self.rows a b }
     {
-        self.rows[2 * a] >> b & 1 == 1
+        self.right_of(a) >> b & 1 == 1
     }
 
     // a is placed left of b, with all that follows by transitivity.
@@ -67,16 +79,8 @@ impl Relation {
         requires { Rows self.rows }
         ensures { (a b : ℕ) → Brings self.rows a b placement.left placement.right → PlacedIn self.rows a b result.rows }
     {
-        closure::grow(&mut self.rows, placement.left, placement.right, 0);
-        closure::grow(&mut self.rows, placement.right, placement.left, 1);
+        self.grow(Side::Right, placement.left, placement.right);
+        self.grow(Side::Left, placement.right, placement.left);
         self
-    }
-
-    // The order made from left to right, into the front of a room.
-    pub fn order(self, n: usize, room: &mut [u8])
-        requires { (n ≤ 32) × (n ≤ length room.old) × Rows self.rows × Within n self.rows }
-        ensures { room.new ≡ made n (reads self.rows) ++ drop n room.old }
-    {
-        stand::all(&self.rows, n, room);
     }
 }

@@ -1,8 +1,8 @@
 -- The walk by the tables: what code answers over a table of costs and rows of bits is what the walk over the rail comes to.
-use mathlib.Core.Bool.{Bool, not, ◌&&◌}
+use mathlib.Core.Bool.{Bool, true, false, not, ◌&&◌}
 use mathlib.Core.List.{List, ◌++◌}
 use mathlib.Core.Path.{◌≡◌, refl, sym, ◌∙◌, ap, ap₂}
-use Prim.Native.Nat.{ℕ, suc, ◌+◌, ◌-◌, ◌/◌, ◌%◌, ◌≤◌, ◌<◌}
+use Prim.Native.Nat.{ℕ, suc, ◌+◌, ◌-◌, ◌≤◌, ◌<◌}
 use native.Mathlib.Omega.{arith}
 use borrow.Author.Tests.{le-ltb}
 use lib.ListN.{length, drop}
@@ -16,19 +16,21 @@ use Rattle.laws.proofs.Below.{spent_same, walk_same}
 use Rattle.laws.proofs.Choice.{reach_opens, reach_not, settles}
 use Rattle.laws.proofs.Pairs.{crossings_spent}
 use Rattle.laws.proofs.Sound.{made_crossings, walk_sound}
-use Rattle.tables.specs.Tables.{cost_in, CostsOf, Masks}
+use Rattle.tables.specs.Tables.{cost_in, CostsOf}
+use Rattle.tables.specs.declared.CostTable.{CostTable}
+use Rattle.tables.specs.declared.Tables.{Tables}
 use Rattle.placements.specs.Rows.{reads, BaseOf, Spent}
-use Rattle.cases.specs.Case.{Case, Tells, FoundIn, Opened, told, found_one}
-use Rattle.cases.proofs.Steps.{found_odd, nothing_even, told_nothing}
-use Rattle.search.specs.Walked.{Walked}
+use Rattle.cases.specs.Case.{outlets_of, cost_of, Case, Tells, FoundIn, Opened}
+use Rattle.cases.proofs.Steps.{found_so, nothing_so}
+use Rattle.search.specs.Walked.{Walked, Settled}
 use Rattle.search.proofs.Answers.{answered_found, answered_nothing}
 
-module _ (rail costs base : List ℕ) (k : ℕ) (few : length rail ≤ 32) (small : k ≤ 30) (C : CostsOf rail costs) (B : BaseOf rail base) where
+module _ (rail base : List ℕ) (k : ℕ) (small : k ≤ 30) (t : CostTable) (count : length rail ≡ t.outlets) (C : CostsOf rail t.pairs) (B : BaseOf rail base) where
   abbrev n : ℕ
-  n = length rail
+  n = t.outlets
 
   abbrev c : Cost
-  c = cost_in costs
+  c = cost_in t.pairs
 
   abbrev R : Relation
   R = reads base
@@ -37,18 +39,23 @@ module _ (rail costs base : List ℕ) (k : ℕ) (few : length rail ≤ 32) (smal
   abbrev o : Outcome
   o = walk n (cost rail) (root rail) k
 
-  same : o ≡ walk n c R k
-  same =
-      walk_same n (cost rail) c (λ u v hu hv. sym (C.pairs u v hu hv)) (root rail) R k (λ u v hu hv. sym (B.base u v hu hv))
+  costs : (u v : ℕ) → u < n → v < n → c u v ≡ cost rail u v
+  costs u v hu hv = C.pairs u v (omega arith) (omega arith)
 
-  paid_by_table : Paid n c R
+  placed : (u v : ℕ) → u < n → v < n → R u v ≡ root rail u v
+  placed u v hu hv = B.base u v (omega arith) (omega arith)
+
+  pub same : o ≡ walk n c R k
+  same = walk_same n (cost rail) c (λ u v hu hv. sym (costs u v hu hv)) (root rail) R k (λ u v hu hv. sym (placed u v hu hv))
+
+  pub paid_by_table : Paid n c R
   unfolding unplaced
   paid_by_table =
       record {
         at_least_one =
             λ u v hu hv apart free.
-            rw (C.pairs u v hu hv)
-            ((root_paid rail).at_least_one u v hu hv apart (ap₂ (λ (s t : Bool). not s && not t) (sym (B.base u v hu hv)) (sym (B.base v u hv hu)) ∙ free));
+            rw (costs u v hu hv)
+            ((root_paid rail).at_least_one u v (omega arith) (omega arith) apart (ap₂ (λ (s t : Bool). not s && not t) (sym (placed u v hu hv)) (sym (placed v u hv hu)) ∙ free));
       }
 
   module _ (before : List ℕ) (paid : ℕ) (S : Spent n base c paid) where
@@ -57,76 +64,82 @@ module _ (rail costs base : List ℕ) (k : ℕ) (few : length rail ≤ 32) (smal
     unfolding walk
     too_dear h =
         let none : o ≡ unopened = same ∙ reach_not n c (opened n c (suc k)) R (spent n c R) k (omega (arith, S.all)) in
-        record { walked = sym (rw none (answered_nothing rail before unopened refl)) }
+        record { walked = rw count (sym (rw none (answered_nothing rail before unopened refl))) }
 
-    module _ (enough : paid ≤ k) where
-      -- The root is a case.
-      pub root_case : (masks : List ℕ) → Masks n c masks → Case n costs masks base 0 (k - paid)
-      root_case masks M =
+module _ (rail base : List ℕ) (k : ℕ) (small : k ≤ 30) (T : Tables) (count : length rail ≡ outlets_of T) (C : CostsOf rail T.costs.now.pairs) (B : BaseOf rail base)
+    (before : List ℕ) (paid : ℕ) (S : Spent (outlets_of T) base (cost_of T) paid) (enough : paid ≤ k) where
+  abbrev N : ℕ
+  N = outlets_of T
+
+  abbrev D : Cost
+  D = cost_of T
+
+  -- the walk over the rail
+  abbrev walked : Outcome
+  walked = walk N (cost rail) (root rail) k
+
+  -- The root is a case.
+  pub root_case : Case T base 0 (k - paid)
+  root_case =
+      record {
+        little = omega arith;
+        held = B.held;
+        within = rw count at B.within;
+        paid = paid_by_table rail base k small T.costs.now count C B;
+        passed = omega arith;
+        none = λ i l. absurd (omega arith);
+      }
+
+  module _ (cases : ℕ) (some : Bool) (rows : List ℕ) (O : Opened T base (k - paid) cases some rows) where
+    -- The answer of the opened root tells the walk's outcome.
+    tells_walk : Tells T walked cases some rows
+    unfolding walk
+    tells_walk =
+        let goes : walked ≡ opened N D (suc k) (reads base) (k - spent N D (reads base)) =
+        same rail base k small T.costs.now count C B ∙ reach_opens N D (opened N D (suc k)) (reads base) (spent N D (reads base)) k (omega (arith, S.all)) in
+        rw (goes, ← S.all) (O.tells (suc k) (omega arith))
+
+    -- It found nothing,
+    pub no_order : some ≡ false → Walked rail k before (record { number = 6; count = 0; cases = cases; room = before })
+    no_order none =
+        let e : walked.end ≡ nothing = nothing_so walked (sym tells_walk.found_one ∙ none) in
+        record { walked = rw count (rw tells_walk.count (sym (answered_nothing rail before walked e))) }
+
+    -- or an order: the one that the rows make, whose crossings are what they spent and the equal costs.
+    module _ (yes : some ≡ true) where
+      pub found_order : (l : List ℕ) × (walked.end ≡ found l)
+      found_order = found_so walked (sym tells_walk.found_one ∙ yes)
+
+      pub rows_found : FoundIn T rows found_order.0
+      rows_found = tells_walk.rows found_order.0 found_order.1
+
+      strict : Strict (reads rows)
+      strict = rows_found.held.strict
+
+      counts : crossings (cost rail) found_order.0 ≡ spent N D (reads rows) + equal_costs N D (reads rows)
+      counts =
+          let l : List ℕ = found_order.0 in
+          let w = walk_sound N (cost rail) (root rail) k l (root_strict rail) found_order.1 in
+          let by_table : crossings (cost rail) l ≡ crossings D l =
+          crossings_spent N (cost rail) l w.0
+          ∙ spent_same N (stands l) (stands l) (λ u v hu hv. refl) (cost rail) D (λ u v hu hv. sym (C.pairs u v (omega arith) (omega arith)))
+          ∙ sym (crossings_spent N D l w.0) in
+          let equal = (settles N D (reads rows) (le-ltb (chosen N D (reads rows)) N (omega (arith, rows_found.settled)))).equal in
+          by_table ∙ ap (crossings D) rows_found.made ∙ made_crossings N D (reads rows) strict equal
+
+      -- the sum is within the budget
+      pub settled : Settled T rows
+      settled =
           record {
-            few = few;
-            little = omega arith;
-            table = C.table;
-            differing = M;
-            held = B.held;
-            within = B.within;
-            paid = paid_by_table;
-            passed = omega arith;
-            none = λ i l. absurd (omega arith);
+            held = rows_found.held;
+            within = rows_found.within;
+            little = omega (arith, counts, (walk_sound N (cost rail) (root rail) k found_order.0 (root_strict rail) found_order.1).2);
           }
 
-      module _ (r : ℕ) (rows : List ℕ) (O : Opened n costs base (k - paid) r rows) where
-        -- The answer of the opened root tells the walk's outcome.
-        tells_walk : Tells n costs o r rows
-        unfolding walk
-        tells_walk =
-            let goes : o ≡ opened n c (suc k) R (k - spent n c R) = same ∙ reach_opens n c (opened n c (suc k)) R (spent n c R) k (omega (arith, S.all)) in
-            rw (goes, ← S.all) (O.tells (suc k) (omega arith))
-
-        -- It found nothing,
-        pub no_order : r % 2 ≡ 0 → Walked rail k before (record { number = 6; count = 0; cases = r / 2; room = before })
-        no_order even =
-            let e : o.end ≡ nothing = nothing_even o (λ odd. omega (arith, tells_walk.number)) in
-            let half : o.cases ≡ r / 2 = omega (arith, tells_walk.number, told_nothing o e) in
-            record { walked = sym (answered_nothing rail before o e ∙ λ i. record { number = 6; count = 0; cases = half i; room = before }) }
-
-        -- or an order: the one that the rows make, whose crossings are what they spent and the equal costs.
-        module _ (odd : r % 2 ≡ 0 → ⊥) where
-          pub found_order : (l : List ℕ) × (o.end ≡ found l)
-          found_order = found_odd o (omega (arith, tells_walk.number))
-
-          pub rows_found : FoundIn n costs rows found_order.0
-          rows_found = tells_walk.rows found_order.0 found_order.1
-
-          strict : Strict (reads rows)
-          strict = rows_found.held.strict
-
-          counts : crossings (cost rail) found_order.0 ≡ spent n c (reads rows) + equal_costs n c (reads rows)
-          counts =
-              let l : List ℕ = found_order.0 in
-              let w = walk_sound n (cost rail) (root rail) k l (root_strict rail) found_order.1 in
-              let by_table : crossings (cost rail) l ≡ crossings c l =
-              crossings_spent n (cost rail) l w.0
-              ∙ spent_same n (stands l) (stands l) (λ u v hu hv. refl) (cost rail) c (λ u v hu hv. sym (C.pairs u v hu hv))
-              ∙ sym (crossings_spent n c l w.0) in
-              let equal = (settles n c (reads rows) (le-ltb (chosen n c (reads rows)) n (omega (arith, rows_found.settled)))).equal in
-              by_table ∙ ap (crossings c) rows_found.made ∙ made_crossings n c (reads rows) strict equal
-
-          -- the sum is within the budget
-          pub within_budget : spent n c (reads rows) + equal_costs n c (reads rows) ≤ 30
-          within_budget =
-              omega (arith, counts, (walk_sound n (cost rail) (root rail) k found_order.0 (root_strict rail) found_order.1).2)
-
-          pub order : (count : ℕ) → count ≡ spent n c (reads rows) + equal_costs n c (reads rows)
-              → Walked rail k before (record { number = 0; count = count; cases = r / 2; room = made n (reads rows) ++ drop n before })
-          unfolding told found_one
-          order count e =
-              let f = found_order in
-              let half : o.cases ≡ r / 2 = omega (arith, tells_walk.number, ap found_one f.1) in
-              let all : crossings (cost rail) f.0 ≡ count = counts ∙ sym e in
-              record {
-                walked =
-                    sym
-                    (answered_found rail before o f.0 f.1
-                    ∙ λ i. record { number = 0; count = all i; cases = half i; room = rows_found.made i ++ drop n before });
-              }
+      pub order : (paid : ℕ) → paid ≡ spent N D (reads rows) + equal_costs N D (reads rows)
+          → Walked rail k before (record { number = 0; count = paid; cases = cases; room = made N (reads rows) ++ drop N before })
+      order paid e =
+          let l : List ℕ = found_order.0 in
+          let all : crossings (cost rail) l ≡ paid = counts ∙ sym e in
+          let a = answered_found rail before walked l found_order.1 in
+          record { walked = rw (count, tells_walk.count, ← all, ← rows_found.made) (sym (rw count at a)) }

@@ -1,2 +1,3 @@
 -- What the search's own functions answer.
 pub mod Walked
+pub mod Told

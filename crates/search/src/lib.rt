@@ -7,94 +7,74 @@ ghost use Rattle.rules.specs.Search.{Searched};
 ghost use Rattle.tables.specs.Tables.{cost_in};
 ghost use Rattle.placements.specs.Rows.{reads};
 ghost use Rattle.search.specs.Walked.{Walked, Settled, HandedOver};
+ghost use Rattle.search.specs.Told.{search_told};
 
 use placements::Relation;
+use refusals::Refusal;
+use tables::{CostTable, Tables};
 
-#[repr(C)]
+// An order was found and stands in the room: its crossings, and the cases that were opened.
 #[derive(Clone, Copy)]
 pub struct Found {
-    pub number: u64,
     pub crossings: u64,
     pub cases: u64,
 }
 
 // Check order 1, 2, 3, 4, 5, then the walk. The order stands in the first bytes of the room; a refused call writes nothing.
-pub fn search(bins: u64, outlets: &[u64], budget: u64, room: &mut [u8]) -> Found
-    ensures { Searched bins outlets.now budget room.old (record { number = result.number; count = result.crossings; cases = result.cases; room = room.new }) }
+pub fn search(bins: u64, outlets: &[u64], budget: u64, room: &mut [u8]) -> Result<Found, Refusal>
+    ensures { Searched bins outlets.now budget room.old (search_told result room.new) }
 {
-    let refused = jobs::refusal(bins, outlets, budget);
-    if refused != 0 {
-        return Found {
-            number: refused,
-            crossings: 0,
-            cases: 0,
-        };
-    }
+    jobs::check(bins, outlets, budget)?;
     if room.len() < outlets.len() {
-        return Found {
-            number: 5,
-            crossings: 0,
-            cases: 0,
-        };
+        return Err(Refusal::RoomTooShort);
     }
     walk(outlets, to_spend(budget), room)
 }
 
-// 255 is searched as 0.
+// A budget that is not written is searched as 0.
 fn to_spend(k: u64) -> u64
     ensures { result ≡ budget k }
 {
-    if k == 255 { 0 } else { k }
+    if k == jobs::NOT_WRITTEN { 0 } else { k }
 }
 
 // The walk over a rail of at most 32 outlets, with k crossings to spend.
-fn walk(outlets: &[u64], k: u64, room: &mut [u8]) -> Found
+fn walk(outlets: &[u64], k: u64, room: &mut [u8]) -> Result<Found, Refusal>
     requires { (length outlets.now ≤ 32) × (k ≤ 30) × (length outlets.now ≤ length room.old) }
-    ensures { Walked outlets.now k room.old (record { number = result.number; count = result.crossings; cases = result.cases; room = room.new }) }
+    ensures { Walked outlets.now k room.old (search_told result room.new) }
 {
-    let n = outlets.len();
-    let mut costs = [0u16; 1024];
-    tables::costs(outlets, &mut costs);
+    let mut costs = CostTable::none();
+    costs.fill(outlets);
     let base = Relation::base(outlets, &costs);
-    let spent = placements::spent(&base.rows, &costs, n);
+    let spent = base.spent(&costs);
     if k < spent {
-        return Found {
-            number: 6,
-            crossings: 0,
-            cases: 0,
-        };
+        return Err(Refusal::NoOrder { cases: 0 });
     }
-    let mut masks = [0u32; 64];
-    tables::masks(&costs, n, &mut masks);
-    let mut rows = [0u32; 64];
-    let opened = cases::open_case(&base.rows, k - spent, 0, n, &costs, &masks, &mut rows);
-    if opened % 2 == 0 {
-        return Found {
-            number: 6,
-            crossings: 0,
-            cases: opened / 2,
-        };
+    let mut masks = [0; 64];
+    costs.masks(&mut masks);
+    let tables = Tables {
+        costs: &costs,
+        masks: &masks,
+    };
+    let mut relation = Relation { rows: [0; 64] };
+    let opened = cases::open_case(&tables, &base, k - spent, 0, &mut relation);
+    if !opened.found {
+        return Err(Refusal::NoOrder {
+            cases: opened.cases,
+        });
     }
-    Found {
-        number: 0,
-        crossings: hand_over(&rows, n, &costs, &masks, room),
-        cases: opened / 2,
-    }
+    Ok(Found {
+        crossings: hand_over(&tables, &relation, room),
+        cases: opened.cases,
+    })
 }
 
-// Writes the order that the rows make into the front of the room, and answers its crossings: what was spent, and the equal costs.
-fn hand_over(
-    rows: &[u32; 64],
-    n: usize,
-    costs: &[u16; 1024],
-    masks: &[u32; 64],
-    room: &mut [u8],
-) -> u64
-    requires { Settled n costs.now masks.now rows.now × (n ≤ length room.old) }
-    ensures { HandedOver n (cost_in costs.now) (reads rows.now) room.old result room.new }
+// Writes the order that a relation makes into the front of the room, and answers its crossings: what was spent, and the equal costs.
+fn hand_over(tables: &Tables, relation: &Relation, room: &mut [u8]) -> u64
+    requires { Settled tables.now relation.now.rows × (tables.now.costs.now.outlets ≤ length room.old) }
+    ensures { HandedOver tables.now.costs.now.outlets (cost_in tables.now.costs.now.pairs) (reads relation.now.rows) room.old result room.new }
 {
-    let crossings = placements::spent(rows, costs, n)
-        + placements::equal_costs(rows, masks, costs, n, 30);
-    Relation { rows: *rows }.order(n, room);
+    let crossings = relation.spent(tables.costs) + relation.equal_costs(tables, 30);
+    relation.order(tables.costs.outlets, room);
     crossings
 }

@@ -1,12 +1,12 @@
 -- The entries of an outlet record, one by one: what the checks say at the first of them, and what a loop along them keeps.
-use mathlib.Core.Path.{◌≡◌, refl, sym, ◌∙◌, ap}
+use mathlib.Core.Path.{◌≡◌, sym, ◌∙◌, ap}
 use mathlib.Core.List.{List, [], ◌∷◌}
 use Prim.Native.Nat.{ℕ, suc, ◌+◌, ◌*◌, ◌%◌, ◌^◌, ◌<◌, ◌≤◌}
 use native.Mathlib.Omega.{arith}
 use native.Mathlib.Nat.{le_refl}
 use native.Mathlib.Numerals.{add-one}
-use lib.ListN.{length, get_or}
-use lib.Seq.{slice, slice-cons, slice_empty}
+use lib.ListN.{length, get_or, drop, drop_of_length-le}
+use lib.Seq.{drop-cons}
 use lib.Bits.{bit_or}
 use lib.Pow.{pow_mono}
 use borrow.Author.Tests.{lt-ltb, le-ltb}
@@ -32,47 +32,46 @@ module _ (bins least b : ℕ) (l : List ℕ) where
 pub with_bin : (set b : ℕ) → set < 2 ^ b → b < 64 → bit_or set ((1 * 2 ^ b) % 2 ^ 64) ≡ set + 2 ^ b
 with_bin set b h k = ap (bit_or set) (shl_one 64 b k) ∙ or_one set b (bit-beyond set b b h (le_refl b))
 
--- What holds where some entries of a record are read, and `left` of `all` are left.
-pub record Entering (bins : ℕ) (all left : List ℕ) (set least : ℕ) : Type 0 where
+-- What holds where i entries of a body are read: the set of them, and the least that the next may be.
+pub record Entering (bins : ℕ) (s : List ℕ) (i set least : ℕ) : Type 0 where
   pub small : least ≤ 64
   pub below : set < 2 ^ least
-  pub checks : entry_checks bins least left ≡ entry_checks bins 0 all
-  pub sets : set + set_of left ≡ set_of all
+  pub checks : entry_checks bins least (drop i s) ≡ entry_checks bins 0 s
+  pub sets : set + set_of (drop i s) ≡ set_of s
 
-pub none_entered : (bins : ℕ) (all : List ℕ) → Entering bins all all 0 0
-none_entered bins all = record { small = omega arith; below = omega arith; checks = refl; sets = omega arith }
+module _ (bins : ℕ) (s : List ℕ) (i set least : ℕ) (e : Entering bins s i set least) where
+  -- the next entry
+  module _ (b : ℕ) (eb : b ≡ get_or s i 0) (h : i < length s) where
+    ahead : drop i s ≡ b ∷ drop (i + 1) s
+    ahead = rw (eb, add-one i) (drop-cons s i 0 h)
 
-pub one_entered : (bins b : ℕ) (all left : List ℕ) (set least : ℕ) → bins ≤ 64 → Entering bins all (b ∷ left) set least → b < bins → least ≤ b → Entering bins all left (bit_or set ((1 * 2 ^ b) % 2 ^ 64)) (b + 1)
-unfolding set_of
-one_entered bins b all left set least few e h r =
-    let under : set < 2 ^ b = omega (arith, e.below, pow_mono r) in
-    let bit : bit_or set ((1 * 2 ^ b) % 2 ^ 64) ≡ set + 2 ^ b = with_bin set b under (omega arith) in
-    record {
-      small = omega arith;
-      below = omega (arith, bit, ap (λ (n : ℕ). 2 ^ n) (add-one b));
-      checks = ap (λ (n : ℕ). entry_checks bins n left) (add-one b) ∙ sym (rising_entry bins least b left h r) ∙ e.checks;
-      sets = omega (arith, bit, e.sets);
-    }
+    pub stray_at : bins ≤ b → 4 ≡ entry_checks bins 0 s
+    stray_at l = sym (stray_entry bins least b (drop (i + 1) s) l) ∙ (rw ahead at e.checks)
 
--- the same along a part of a sheet, whose next entry stands at i
-module _ (s : List ℕ) (start end i bins set least : ℕ) (e : Entering bins (slice start end s) (slice i end s) set least) where
-  pub entries_at : i < end → end ≤ length s → Entering bins (slice start end s) (get_or s i 0 ∷ slice (suc i) end s) set least
-  entries_at h k = rw (slice-cons i end s 0 h k) at e
+    pub falling_at : b < bins → b < least → 11 ≡ entry_checks bins 0 s
+    falling_at l f = sym (falling_entry bins least b (drop (i + 1) s) l f) ∙ (rw ahead at e.checks)
 
-  pub stray_at : i < end → end ≤ length s → bins ≤ get_or s i 0 → entry_checks bins 0 (slice start end s) ≡ 4
-  stray_at h k l = sym (entries_at h k).checks ∙ stray_entry bins least (get_or s i 0) (slice (suc i) end s) l
-
-  pub falling_at : i < end → end ≤ length s → get_or s i 0 < bins → get_or s i 0 < least → entry_checks bins 0 (slice start end s) ≡ 11
-  falling_at h k l f = sym (entries_at h k).checks ∙ falling_entry bins least (get_or s i 0) (slice (suc i) end s) l f
-
-  pub entered_at : bins ≤ 64 → i < end → end ≤ length s → get_or s i 0 < bins → least ≤ get_or s i 0 → Entering bins (slice start end s) (slice (i + 1) end s) (bit_or set ((1 * 2 ^ get_or s i 0) % 2 ^ 64)) (get_or s i 0 + 1)
-  entered_at few h k l r =
-      rw (add-one i)
-      (one_entered bins (get_or s i 0) (slice start end s) (slice (suc i) end s) set least few (entries_at h k) l r)
+    pub entered_at : bins ≤ 64 → b < bins → least ≤ b → Entering bins s (i + 1) (bit_or set ((1 * 2 ^ b) % 2 ^ 64)) (b + 1)
+    unfolding set_of
+    entered_at few l r =
+        let under : set < 2 ^ b = omega (arith, e.below, pow_mono r) in
+        let bit : bit_or set ((1 * 2 ^ b) % 2 ^ 64) ≡ set + 2 ^ b = with_bin set b under (omega arith) in
+        record {
+          small = omega arith;
+          below = omega (arith, bit, ap (λ (n : ℕ). 2 ^ n) (add-one b));
+          checks = ap (λ (n : ℕ). entry_checks bins n (drop (i + 1) s)) (add-one b) ∙ sym (rising_entry bins least b (drop (i + 1) s) l r) ∙ (rw ahead at e.checks);
+          sets = omega (arith, bit, ap set_of ahead, e.sets);
+        }
 
   -- all entries are read
-  pub all_entered : i ≡ end → (entry_checks bins 0 (slice start end s) ≡ 0) × (set_of (slice start end s) ≡ set)
-  unfolding entry_checks set_of
-  all_entered h =
-      let none : slice i end s ≡ [] = rw h (slice_empty end s) in
-      (sym e.checks ∙ ap (entry_checks bins least) none, omega (arith, e.sets, ap set_of none))
+  module _ (h : length s ≤ i) where
+    none_left : drop i s ≡ []
+    none_left = drop_of_length-le s h
+
+    pub all_checked : 0 ≡ entry_checks bins 0 s
+    unfolding entry_checks
+    all_checked = sym (ap (entry_checks bins least) none_left) ∙ e.checks
+
+    pub all_entered : set ≡ set_of s
+    unfolding set_of
+    all_entered = omega (arith, e.sets, ap set_of none_left)

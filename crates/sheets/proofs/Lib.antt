@@ -2,7 +2,6 @@
 pub mod RecordLaws
 pub mod EntryLaws
 pub mod HeadLaws
-pub mod RowLaws
 pub mod ReadLaws
 pub mod BinLaws
 pub mod WriteLaws

@@ -1,3 +1,4 @@
--- What the functions inside the crate are said to answer; what the operations answer stands in the rules.
-pub mod Records
-pub mod Reading
+-- What an answer tells in the numbers of the rules; and words of the functions inside the crate.
+pub mod Told
+pub mod Found
+pub mod Writing

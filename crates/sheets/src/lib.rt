@@ -1,5 +1,5 @@
 // Job sheets: the next record at a place, reading a sheet and writing one.
-// Every operation answers every input; what it answers stands in crates/rules/specs (Next, Read, Write).
+// Every operation answers every input; what it answers stands in crates/rules/specs (Next, Read, Write), and how an answer tells it in specs/Told.
 #![tactic(auto)]
 
 mod reading;
@@ -8,6 +8,6 @@ mod walking;
 mod writing;
 
 pub use reading::{Job, read};
-pub use records::{Record, next};
-pub use walking::{Walk, first, moved, record_ahead, start};
-pub use writing::{Written, write};
+pub use records::{Kind, Record, next};
+pub use walking::{Walk, first};
+pub use writing::write;

@@ -1,100 +1,106 @@
 // The record at a place of a sheet, and the next record for a caller who keeps the place.
-ghost use Rattle.std.specs.Prelude.{◌≡◌, ◌+◌, ◌<◌, length};
-ghost use Rattle.rules.specs.Next.{two_at, bad_length, kind_due, NextRecord};
-ghost use Rattle.sheets.specs.Records.{record_at};
+ghost use Rattle.std.specs.Prelude.{◌≡◌, ◌+◌, ◌<◌, length, IfOk};
+ghost use Rattle.rules.specs.Next.{two_at, bad_length, record_checks, kind_due, NextRecord};
+ghost use Rattle.refusals.specs.Numbers.{number_told};
+ghost use Rattle.sheets.specs.Found.{record_at};
+ghost use Rattle.sheets.specs.Told.{kind_number, next_told};
 
-// A refusal has its number, zeros, and the place that was asked; the end is number 0 and kind 0.
-#[repr(C)]
+use refusals::Refusal;
+
+// What a record of a sheet is: the head, or an outlet.
+#[derive(Clone, Copy, PartialEq, Eq)]
+pub enum Kind {
+    Head,
+    Outlet,
+}
+
+impl Kind {
+    // Its number in a sheet.
+    pub fn number(self) -> u64
+        ensures { result ≡ kind_number self }
+    {
+        match self {
+            Kind::Head => 1,
+            Kind::Outlet => 2,
+        }
+    }
+}
+
+// A record: where its body starts, how long that is, and where the next record starts.
 #[derive(Clone, Copy)]
 pub struct Record {
-    pub number: u64,
-    pub kind: u64,
+    pub kind: Kind,
     pub start: u64,
     pub length: u64,
     pub next: u64,
 }
 
-pub fn wide(b: u8) -> u64
-    ensures { result ≡ b }
-{
-    b as u64
-}
-
 // Two bytes, little-endian.
+#[tactic(auto, unfolding(rules::specs::Next::two_at))]
 fn two(sheet: &[u8], at: usize) -> u64
     requires { at + 1 < length sheet.now }
     ensures { result ≡ two_at sheet.now at }
 {
-    wide(sheet[at]) + 256 * wide(sheet[at + 1])
+    u64::from(u16::from_le_bytes([sheet[at], sheet[at + 1]]))
 }
 
-// 10: head length not 3, or outlet record longer than 64
-fn bad_length(kind: u64, length: u64) -> bool
-    ensures { result ≡ bad_length kind length }
+// A head is three bytes, an outlet record at most one for each bin.
+#[tactic(auto, unfolding(rules::specs::Next::bad_length))]
+fn bad_length(kind: Kind, length: u64) -> bool
+    ensures { result ≡ bad_length (kind_number kind) length }
 {
-    if kind == 1 { length != 3 } else { 64 < length }
-}
-
-fn no_record(number: u64, place: u64) -> Record
-    ensures { result ≡ record { number = number; kind = 0; start = 0; length = 0; next = place } }
-{
-    Record {
-        number,
-        kind: 0,
-        start: 0,
-        length: 0,
-        next: place,
+    match kind {
+        Kind::Head => length != 3,
+        Kind::Outlet => 64 < length,
     }
 }
 
 // The record of a kind at a place: 8, 9, 10, and 8 again for a body past the end.
-pub fn record_at(sheet: &[u8], place: u64, kind: u64) -> Record
-    ensures { result ≡ record_at kind sheet.now place }
+#[tactic(auto, unfolding(rules::specs::Numbers::first_of, rules::specs::Next::record_checks, rules::specs::Next::kind_at, rules::specs::Next::length_at, rules::specs::Next::after))]
+pub(crate) fn record_at(sheet: &[u8], place: u64, kind: Kind) -> Result<Record, Refusal>
+    ensures number { number_told result ≡ record_checks (kind_number kind) sheet.now place }
+    ensures found { IfOk result (λ r. r ≡ record_at kind sheet.now place) }
 {
     let n = sheet.len() as u64;
-    if n < place {
-        return no_record(8, place);
-    }
-    if n - place < 4 {
-        return no_record(8, place);
+    if n < place || n - place < 4 {
+        return Err(Refusal::SheetEnds);
     }
     let at = place as usize;
-    if two(sheet, at + 2) != kind {
-        return no_record(9, place);
+    if two(sheet, at + 2) != kind.number() {
+        return Err(Refusal::WrongKind);
     }
     let length = two(sheet, at);
     if bad_length(kind, length) {
-        return no_record(10, place);
+        return Err(Refusal::BadLength);
     }
     let start = place + 4;
     if n - start < length {
-        return no_record(8, place);
+        return Err(Refusal::SheetEnds);
     }
-    Record {
-        number: 0,
+    Ok(Record {
         kind,
         start,
         length,
         next: start + length,
-    }
+    })
 }
 
-// Kind 1 at the start, kind 2 after it.
-fn kind_due(place: u64) -> u64
-    ensures { result ≡ kind_due place }
+// The head stands at the start, outlets after it.
+#[tactic(auto, unfolding(rules::specs::Next::kind_due))]
+fn kind_due(place: u64) -> Kind
+    ensures { kind_number result ≡ kind_due place }
 {
-    if place == 0 { 1 } else { 2 }
+    if place == 0 { Kind::Head } else { Kind::Outlet }
 }
 
-// The next record: the end where the bytes end, but not of an empty sheet.
-pub fn next(sheet: &[u8], place: u64) -> Record
-    ensures { NextRecord sheet.now place (record { number = result.number; kind = result.kind; start = result.start; length = result.length; next = result.next }) }
+// The next record, or none at the end of the bytes: but an empty sheet has no end to come to.
+#[tactic(auto, unfolding(rules::specs::Next::at_end))]
+pub fn next(sheet: &[u8], place: u64) -> Result<Option<Record>, Refusal>
+    ensures { NextRecord sheet.now place (next_told place result) }
 {
     let n = sheet.len() as u64;
-    if 0 < n {
-        if place == n {
-            return no_record(0, place);
-        }
+    if 0 < n && place == n {
+        return Ok(None);
     }
-    record_at(sheet, place, kind_due(place))
+    Ok(Some(record_at(sheet, place, kind_due(place))?))
 }

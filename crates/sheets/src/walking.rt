@@ -1,8 +1,10 @@
 // The walk over a sheet that keeps the sheet and its place: a thin struct over `next`, made from a sheet, asked for the next record, moved on.
 ghost use Rattle.std.specs.Prelude.{◌≡◌};
 ghost use Rattle.rules.specs.Next.{NextRecord};
+ghost use Rattle.sheets.specs.Told.{next_told};
 
 use crate::records::{Record, next};
+use refusals::Refusal;
 
 #[derive(Clone, Copy)]
 pub struct Walk<'a> {
@@ -10,33 +12,32 @@ pub struct Walk<'a> {
     pub place: u64,
 }
 
-// A walk at the start of a sheet.
-pub fn start<'a>(sheet: &'a [u8]) -> Walk<'a>
-    ensures { result ≡ record { sheet = sheet.entry; place = 0 } }
-{
-    Walk { sheet, place: 0 }
-}
+impl<'a> Walk<'a> {
+    // A walk at the start of a sheet.
+    pub fn start(sheet: &'a [u8]) -> Walk<'a>
+        ensures { result ≡ record { sheet = sheet.entry; place = 0 } }
+    {
+        Walk { sheet, place: 0 }
+    }
 
-// The next record, at the walk's place.
-pub fn record_ahead<'a>(w: Walk<'a>) -> Record
-    ensures { NextRecord w.entry.sheet.now w.entry.place (record { number = result.number; kind = result.kind; start = result.start; length = result.length; next = result.next }) }
-{
-    next(w.sheet, w.place)
-}
+    // The next record, at the walk's place.
+    pub fn record_ahead(self) -> Result<Option<Record>, Refusal>
+        ensures { NextRecord self.entry.sheet.now self.entry.place (next_told self.entry.place result) }
+    {
+        next(self.sheet, self.place)
+    }
 
-// The same sheet at another place: `next` of the record that was answered, which after a refusal or the end is the walk's own.
-pub fn moved<'a>(w: Walk<'a>, place: u64) -> Walk<'a>
-    ensures { result ≡ record { sheet = w.entry.sheet; place = place } }
-{
-    Walk {
-        sheet: w.sheet,
-        place,
+    // The same sheet at another place: `next` of the record that was answered. After a refusal and at the end a walk stays where it is.
+    pub fn moved(self, place: u64) -> Walk<'a>
+        ensures { result ≡ record { sheet = self.entry.sheet; place = place } }
+    {
+        Walk { place, ..self }
     }
 }
 
 // The first record of a sheet, for a caller who keeps no walk.
-pub fn first(sheet: &[u8]) -> Record
-    ensures { NextRecord sheet.now 0 (record { number = result.number; kind = result.kind; start = result.start; length = result.length; next = result.next }) }
+pub fn first(sheet: &[u8]) -> Result<Option<Record>, Refusal>
+    ensures { NextRecord sheet.now 0 (next_told 0 result) }
 {
-    record_ahead(start(sheet))
+    Walk::start(sheet).record_ahead()
 }

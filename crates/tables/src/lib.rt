@@ -1,16 +1,9 @@
 // The tables that a search makes once: the cost of each pair of outlets, 32 to a row, and two masks an outlet.
 #![tactic(auto)]
 
-ghost use Rattle.std.specs.Prelude.{◌≡◌, ◌<◌, ◌≤◌, ltb, length, replicate};
+ghost use Rattle.std.specs.Prelude.{◌≡◌, ℕ, ◌+◌, ◌*◌, ◌<◌, ◌≤◌, ltb, length, get_or, replicate, slice_set};
 ghost use Rattle.rules.specs.Pair.{Paired};
 ghost use Rattle.tables.specs.Tables.{cost_in, Costs, CostsOf, Beside, Passed, differ, Masks};
-
-// A cost as a number to add up.
-pub fn wide(x: u16) -> u64
-    ensures { result ≡ x }
-{
-    x as u64
-}
 
 // cross(b, a), by cross(a, b): the two add up to hoses against hoses, less the bins that both have.
 fn other_way(a: u64, b: u64, ab: u64) -> u64
@@ -28,43 +21,95 @@ fn own(a: u64) -> u64
     (at_a * at_a - at_a) / 2
 }
 
-// The cost of every pair of a rail of at most 32 outlets.
-pub fn costs(outlets: &[u64], table: &mut [u16; 1024])
-    requires { (length outlets.now ≤ 32) × Costs table.old }
-    ensures { CostsOf outlets.now table.new }
-{
-    for u in 0..outlets.len() {
-        beside(outlets, u, table);
-    }
+// What it costs, of every pair of a rail of at most 32 outlets, that the one stands left of the other.
+#[derive(Drop)]
+pub struct CostTable {
+    // first, so that a cost lies where its number says, without a step past the count: the search looks up a dozen a case
+    pub pairs: [u16; 1024],
+    pub outlets: usize,
+    pub ghost few: { outlets ≤ 32 },
+    pub ghost table: { Costs pairs },
 }
 
-// The costs of outlet u beside itself and each outlet before it, both ways.
-fn beside(outlets: &[u64], u: usize, table: &mut [u16; 1024])
-    requires { (length outlets.now ≤ 32) × (u < length outlets.now) × Costs table.old }
-    ensures { Beside outlets.now table.old u u table.new }
-{
-    let a = outlets[u];
-    table[32 * u + u] = own(a) as u16;
-    for v in 0..u {
-        let b = outlets[v];
-        let ab = hoses::pair(a, b);
-        table[32 * u + v] = ab as u16;
-        table[32 * v + u] = other_way(a, b, ab) as u16;
-    }
-}
-
-// The outlets above u whose two cross values with u differ.
-fn differing(costs: &[u16; 1024], n: usize, u: usize) -> u32
-    requires { (n ≤ 32) × (u < n) }
-    ensures { Passed result n (differ (cost_in costs.now) u) }
-{
-    let mut mask: u32 = 0;
-    for v in u + 1..n {
-        if costs[32 * u + v] != costs[32 * v + u] {
-            mask |= 1 << v;
+impl CostTable {
+    // The table of no outlets.
+    pub fn none() -> Self
+        ensures { result.outlets ≡ 0 }
+    {
+        CostTable {
+            outlets: 0,
+            pairs: [0; 1024],
         }
     }
-    mask
+
+    // Fills the table with the costs of a rail. It is filled where it stands: a copy would take as long as the search of a small rail.
+    pub fn fill(&mut self, outlets: &[u64])
+        requires { length outlets.now ≤ 32 }
+        ensures pairs { CostsOf outlets.now self.new.pairs }
+        ensures count { self.new.outlets ≡ length outlets.now }
+    {
+        self.outlets = outlets.len();
+        for u in 0..outlets.len() {
+            self.beside(outlets, u);
+        }
+    }
+
+    // What it costs that u stands left of v.
+    pub fn cost(&self, u: usize, v: usize) -> u64
+        requires { (u < 32) × (v < 32) }
+        ensures { result ≡ cost_in self.now.pairs u v }
+    {
+        u64::from(self.pairs[32 * u + v])
+    }
+
+    fn set(&mut self, u: usize, v: usize, cost: u64)
+        requires { (u < 32) × (v < 32) × (cost ≤ 2016) }
+        ensures written { self.new.pairs ≡ slice_set self.old.pairs (32 * u + v) cost }
+        ensures count { self.new.outlets ≡ self.old.outlets }
+    {
+        self.pairs[32 * u + v] = cost as u16;
+    }
+
+    // The costs of outlet u beside itself and each outlet before it, both ways.
+    fn beside(&mut self, outlets: &[u64], u: usize)
+        requires { (length outlets.now ≤ 32) × (u < length outlets.now) }
+        ensures costs { Beside outlets.now self.old.pairs u u self.new.pairs }
+        ensures count { self.new.outlets ≡ self.old.outlets }
+    {
+        let a = outlets[u];
+        self.set(u, u, own(a));
+        for v in 0..u {
+            let b = outlets[v];
+            let ab = hoses::pair(a, b);
+            self.set(u, v, ab);
+            self.set(v, u, other_way(a, b, ab));
+        }
+    }
+
+    // Both masks of each outlet, into rows of zeros.
+    pub fn masks(&self, rows: &mut [u32; 64])
+        requires { rows.old ≡ replicate 64 0 }
+        ensures { Masks self.now.outlets (cost_in self.now.pairs) rows.new }
+    {
+        for u in 0..self.outlets {
+            rows[2 * u] = self.differing(u);
+            rows[2 * u + 1] = above(self.outlets, u);
+        }
+    }
+
+    // The outlets above u whose two cross values with u differ.
+    fn differing(&self, u: usize) -> u32
+        requires { u < self.now.outlets }
+        ensures { Passed result self.now.outlets (differ (cost_in self.now.pairs) u) }
+    {
+        let mut mask: u32 = 0;
+        for v in u + 1..self.outlets {
+            if self.cost(u, v) != self.cost(v, u) {
+                mask |= 1 << v;
+            }
+        }
+        mask
+    }
 }
 
 // The outlets above u, of n.
@@ -77,13 +122,28 @@ fn above(n: usize, u: usize) -> u32
     (all - others) as u32
 }
 
-// Both masks of each of n outlets, into rows of zeros.
-pub fn masks(costs: &[u16; 1024], n: usize, rows: &mut [u32; 64])
-    requires { (n ≤ 32) × (rows.old ≡ replicate 64 0) }
-    ensures { Masks n (cost_in costs.now) rows.new }
-{
-    for u in 0..n {
-        rows[2 * u] = differing(costs, n, u);
-        rows[2 * u + 1] = above(n, u);
+// The costs of a rail, and both masks of each of its outlets.
+#[derive(Clone, Copy)]
+pub struct Tables<'a> {
+    pub costs: &'a CostTable,
+    pub masks: &'a [u32; 64],
+    pub ghost held: { Masks costs.now.outlets (cost_in costs.now.pairs) masks.now },
+}
+
+impl Tables<'_> {
+    // The outlets above u whose two cross values with u differ.
+    pub fn differing(&self, u: usize) -> u32
+        requires { u < 32 }
+        ensures { result ≡ get_or self.now.masks.now (2 * u) 0 }
+    {
+        self.masks[2 * u]
+    }
+
+    // The outlets above u.
+    pub fn above(&self, u: usize) -> u32
+        requires { u < 32 }
+        ensures { result ≡ get_or self.now.masks.now (2 * u + 1) 0 }
+    {
+        self.masks[2 * u + 1]
     }
 }

@@ -2,6 +2,8 @@
 // A `-` stands for a place of a lent room that the call left as it was.
 #![tactic(auto)]
 
+mod answers;
+mod asked;
 mod limits;
 mod on_sheets;
 mod print;

@@ -1,179 +1,164 @@
 // Job sheets: the sheet of three as document 01 has it, read, written and walked; then cut, changed at a byte, and as long as sheets get.
 ghost use Rattle.std.specs.Prelude.{◌<◌};
 
-use crate::limits::{FULL, LAST};
-use crate::print::{BEFORE, SET_BEFORE};
-use crate::{print, typed};
-use std::io;
+use crate::answers::{Next, Read, Written};
+use crate::asked::{FULL, LAST, Rail, THREE};
+use crate::print::{BEFORE, Bytes, Outlets, SET_BEFORE};
+use crate::typed;
+use std::{fmt, io};
 
-const THREE: [u8; 25] = [
+const SHEET: [u8; 25] = [
     0x03, 0x00, 0x01, 0x00, 0x04, 0x03, 0x04, 0x03, 0x00, 0x02, 0x00, 0x00, 0x02, 0x03, 0x01, 0x00,
     0x02, 0x00, 0x01, 0x02, 0x00, 0x02, 0x00, 0x00, 0x03,
 ];
 
-fn read_line(rt: &impl Print, name: &[u8], room: usize, job: sheets::Job) -> io::Result<()> {
-    print::words(rt, name)?;
-    print::number(rt, b" read, a room of ", room as u64)?;
-    print::number(rt, b": number ", job.number)?;
-    print::number(rt, b", bins ", job.bins)?;
-    print::number(rt, b", outlets ", job.outlets)?;
-    print::number(rt, b", budget ", job.budget)
-}
-
-fn read(rt: &impl Print, name: &[u8], sheet: &[u8], room: &mut [u64]) -> io::Result<()> {
-    let job = sheets::read(sheet, room);
-    read_line(rt, name, room.len(), job)?;
-    print::words(rt, b", room")?;
-    print::outlets(rt, room)?;
-    print::words(rt, b"\n")
-}
-
-fn write(
+// A sheet read into a room of the caller's.
+fn read(
     rt: &impl Print,
-    name: &[u8],
-    bins: u64,
-    outlets: &[u64],
-    budget: u64,
-    room: &mut [u8],
+    name: impl fmt::Display + Drop,
+    sheet: &[u8],
+    room: &mut [u64],
 ) -> io::Result<()> {
-    print::job(rt, name, bins, outlets.len(), budget, room.len())?;
-    let written = sheets::write(bins, outlets, budget, room);
-    print::number(rt, b": written, number ", written.number)?;
-    print::number(rt, b", length ", written.length)?;
-    print::room(rt, room)
+    let size = room.len();
+    let answer = Read(sheets::read(sheet, room));
+    let room = Outlets(room);
+    println!(rt; "{name} read, a room of {size}: {answer}, room{room}")
 }
 
-fn write_three(rt: &impl Print, room: &mut [u8]) -> io::Result<()> {
-    write(rt, b"three", 4, &[0b1101, 0b0010, 0b1001], 4, room)
+fn write(rt: &impl Print, rail: Rail, budget: u64, room: &mut [u8]) -> io::Result<()> {
+    let answer = Written(sheets::write(rail.bins, rail.outlets, budget, room));
+    let size = room.len();
+    let room = Bytes(room);
+    println!(rt; "{rail}, budget {budget}, a room of {size}: written, {answer}, room{room}")
 }
 
 // A room shorter than the outlets, or than the sheet, is 5. Bytes after the last record are 12.
 pub fn three(rt: &impl Print) -> io::Result<()> {
-    read(rt, b"three", &THREE, &mut [SET_BEFORE; 4])?;
-    read(rt, b"three", &THREE, &mut [SET_BEFORE; 3])?;
-    read(rt, b"three", &THREE, &mut [SET_BEFORE; 2])?;
+    read(rt, "three", &SHEET, &mut [SET_BEFORE; 4])?;
+    read(rt, "three", &SHEET, &mut [SET_BEFORE; 3])?;
+    read(rt, "three", &SHEET, &mut [SET_BEFORE; 2])?;
     let mut room = [BEFORE; 26];
-    write_three(rt, &mut room)?;
-    read(rt, b"three and a byte", &room, &mut [SET_BEFORE; 3])?;
-    write_three(rt, &mut [BEFORE; 25])?;
-    write_three(rt, &mut [BEFORE; 24])
+    write(rt, THREE, 4, &mut room)?;
+    read(rt, "three and a byte", &room, &mut [SET_BEFORE; 3])?;
+    write(rt, THREE, 4, &mut [BEFORE; 25])?;
+    write(rt, THREE, 4, &mut [BEFORE; 24])
 }
 
 // The next record at a place.
-fn next(rt: &impl Print, name: &[u8], sheet: &[u8], place: u64) -> io::Result<()> {
-    let record = sheets::next(sheet, place);
-    print::words(rt, name)?;
-    print::number(rt, b", the record at ", place)?;
-    print::number(rt, b": number ", record.number)?;
-    print::number(rt, b", kind ", record.kind)?;
-    print::number(rt, b", start ", record.start)?;
-    print::number(rt, b", length ", record.length)?;
-    print::number(rt, b", next ", record.next)?;
-    print::words(rt, b"\n")
+fn next(rt: &impl Print, name: &str, sheet: &[u8], place: u64) -> io::Result<()> {
+    let answer = sheets::next(sheet, place);
+    let answer = Next { place, answer };
+    println!(rt; "{name}, the record at {place}: {answer}")
 }
 
 // Kind 0 is the end. After a refusal or the end the place stays.
 pub fn walked(rt: &impl Print) -> io::Result<()> {
-    next(rt, b"three", &THREE, 0)?;
-    next(rt, b"three", &THREE, 7)?;
-    next(rt, b"three", &THREE, 14)?;
-    next(rt, b"three", &THREE, 19)?;
-    next(rt, b"three", &THREE, 25)?;
-    next(rt, b"three", &THREE, 26)?;
-    next(rt, b"three", &THREE, 22)?;
-    next(rt, b"three", &THREE, 21)?;
-    next(rt, b"three cut to 24", &THREE[..24], 19)?;
-    next(rt, b"three cut to 0", &[], 0)
+    for place in [0, 7, 14, 19, 25, 26, 22, 21] {
+        next(rt, "three", &SHEET, place)?;
+    }
+    next(rt, "three cut to 24", &SHEET[..24], 19)?;
+    next(rt, "three cut to 0", &[], 0)
 }
 
-fn read_three(rt: &impl Print, name: &[u8], sheet: &[u8]) -> io::Result<()> {
-    read(rt, name, sheet, &mut [SET_BEFORE; 3])
+// The sheet of three up to a place.
+fn cut_to(rt: &impl Print, place: usize) -> io::Result<()>
+    requires { place < 25 }
+{
+    read(
+        rt,
+        format_args!("three cut to {place}"),
+        &SHEET[..place],
+        &mut [SET_BEFORE; 3],
+    )
 }
 
 // A sheet that ends before the record does is 8, wherever it ends.
 pub fn cut(rt: &impl Print) -> io::Result<()> {
-    read_three(rt, b"three cut to 0", &THREE[..0])?;
-    read_three(rt, b"three cut to 3", &THREE[..3])?;
-    read_three(rt, b"three cut to 6", &THREE[..6])?;
-    read_three(rt, b"three cut to 7", &THREE[..7])?;
-    read_three(rt, b"three cut to 10", &THREE[..10])?;
-    read_three(rt, b"three cut to 13", &THREE[..13])?;
-    read_three(rt, b"three cut to 24", &THREE[..24])
+    cut_to(rt, 0)?;
+    cut_to(rt, 3)?;
+    cut_to(rt, 6)?;
+    cut_to(rt, 7)?;
+    cut_to(rt, 10)?;
+    cut_to(rt, 13)?;
+    cut_to(rt, 24)
 }
 
 // The sheet of three with another byte at a place.
-fn changed(rt: &impl Print, name: &[u8], place: usize, byte: u8) -> io::Result<()>
+fn changed(rt: &impl Print, change: &str, place: usize, byte: u8) -> io::Result<()>
     requires { place < 25 }
 {
-    let mut sheet = THREE;
+    let mut sheet = SHEET;
     sheet[place] = byte;
-    read_three(rt, name, &sheet)
+    read(
+        rt,
+        format_args!("three, {change}"),
+        &sheet,
+        &mut [SET_BEFORE; 3],
+    )
 }
 
 // The head: its length, its kind, bins, outlets, budget. After the head: 1, 2, 3, 5.
 pub fn heads(rt: &impl Print) -> io::Result<()> {
-    changed(rt, b"three, head length 2", 0, 2)?;
-    changed(rt, b"three, head kind 2", 2, 2)?;
-    changed(rt, b"three, head kind 257", 3, 1)?;
-    changed(rt, b"three, 64 bins", 4, 64)?;
-    changed(rt, b"three, 65 bins", 4, 65)?;
-    changed(rt, b"three, 3 bins", 4, 3)?;
-    changed(rt, b"three, 2 outlets", 5, 2)?;
-    changed(rt, b"three, 32 outlets", 5, 32)?;
-    changed(rt, b"three, 33 outlets", 5, 33)?;
-    changed(rt, b"three, budget 30", 6, 30)?;
-    changed(rt, b"three, budget 31", 6, 31)?;
-    changed(rt, b"three, budget 254", 6, 254)?;
-    changed(rt, b"three, budget 255", 6, 255)
+    changed(rt, "head length 2", 0, 2)?;
+    changed(rt, "head kind 2", 2, 2)?;
+    changed(rt, "head kind 257", 3, 1)?;
+    changed(rt, "64 bins", 4, 64)?;
+    changed(rt, "65 bins", 4, 65)?;
+    changed(rt, "3 bins", 4, 3)?;
+    changed(rt, "2 outlets", 5, 2)?;
+    changed(rt, "32 outlets", 5, 32)?;
+    changed(rt, "33 outlets", 5, 33)?;
+    changed(rt, "budget 30", 6, 30)?;
+    changed(rt, "budget 31", 6, 31)?;
+    changed(rt, "budget 254", 6, 254)?;
+    changed(rt, "budget 255", 6, 255)
 }
 
 // The outlet records: length, kind, entries. Also where the last record of all is the bad one, nothing is written.
 pub fn outlets(rt: &impl Print) -> io::Result<()> {
-    changed(rt, b"three, first outlet length 64", 7, 64)?;
-    changed(rt, b"three, first outlet length 65", 7, 65)?;
-    changed(rt, b"three, first outlet kind 1", 9, 1)?;
-    changed(rt, b"three, first outlet 0 0 3", 12, 0)?;
-    changed(rt, b"three, first outlet 3 2 3", 11, 3)?;
-    changed(rt, b"three, first outlet 0 4 3", 12, 4)?;
-    changed(rt, b"three, last outlet kind 3", 21, 3)?;
-    changed(rt, b"three, last outlet 3 3", 23, 3)?;
-    changed(rt, b"three, last outlet 0 4", 24, 4)
+    changed(rt, "first outlet length 64", 7, 64)?;
+    changed(rt, "first outlet length 65", 7, 65)?;
+    changed(rt, "first outlet kind 1", 9, 1)?;
+    changed(rt, "first outlet 0 0 3", 12, 0)?;
+    changed(rt, "first outlet 3 2 3", 11, 3)?;
+    changed(rt, "first outlet 0 4 3", 12, 4)?;
+    changed(rt, "last outlet kind 3", 21, 3)?;
+    changed(rt, "last outlet 3 3", 23, 3)?;
+    changed(rt, "last outlet 0 4", 24, 4)
 }
 
 // A record of 64 bins is taken. With one entry more, which is no bin of the row, it is 10: the length is looked at first.
 pub fn long_records(rt: &impl Print) -> io::Result<()> {
     let mut full = [BEFORE; 75];
-    write(rt, b"all bins", 64, &[FULL], 255, &mut full)?;
-    read(rt, b"a record of 64 bins", &full, &mut [SET_BEFORE; 2])?;
-    next(rt, b"a record of 64 bins", &full, 7)?;
+    write(rt, Rail::of("all bins", 64, &[FULL]), 255, &mut full)?;
+    read(rt, "a record of 64 bins", &full, &mut [SET_BEFORE; 2])?;
+    next(rt, "a record of 64 bins", &full, 7)?;
     let mut longer = [64; 76];
-    sheets::write(64, &[FULL], 255, &mut longer);
+    longer[..75].copy_from_slice(&full);
     longer[7] = 65;
-    read(rt, b"a record of 65 bins", &longer, &mut [SET_BEFORE; 2])?;
-    next(rt, b"a record of 65 bins", &longer, 7)
+    read(rt, "a record of 65 bins", &longer, &mut [SET_BEFORE; 2])?;
+    next(rt, "a record of 65 bins", &longer, 7)
 }
 
 // The longest sheet has 7 + 32 x 68 = 2,183 bytes. Its rooms are too long for a line; what was read is counted.
 pub fn longest(rt: &impl Print) -> io::Result<()> {
     let mut room = [BEFORE; 2183];
-    let written = sheets::write(64, &[FULL; 32], 30, &mut room);
-    print::number(rt, b"the longest sheet: written, number ", written.number)?;
-    print::number(rt, b", length ", written.length)?;
-    print::words(rt, b"\n")?;
-    next(rt, b"the longest sheet", &room, 2115)?;
-    next(rt, b"the longest sheet", &room, 2183)?;
+    let written = Written(sheets::write(64, &[FULL; 32], 30, &mut room));
+    println!(rt; "the longest sheet: written, {written}")?;
+    next(rt, "the longest sheet", &room, 2115)?;
+    next(rt, "the longest sheet", &room, 2183)?;
     let mut outlets = [SET_BEFORE; 32];
-    let job = sheets::read(&room, &mut outlets);
-    read_line(rt, b"the longest sheet", 32, job)?;
-    print::words(rt, b"\n")?;
-    typed::counted(rt, b"the longest sheet", 64, &outlets, &typed::BY_NUMBER)
+    let job = Read(sheets::read(&room, &mut outlets));
+    println!(rt; "the longest sheet read, a room of 32: {job}")?;
+    let rail = Rail::of("the longest sheet", 64, &outlets);
+    typed::counted(rt, rail, &typed::BY_NUMBER)
 }
 
 // Writing: check order 1, 2, 3, 4, 5, with each line one fault fewer.
 pub fn check_order(rt: &impl Print) -> io::Result<()> {
-    write(rt, b"bin 63", 65, &[LAST; 33], 31, &mut [])?;
-    write(rt, b"bin 63", 63, &[LAST; 33], 31, &mut [])?;
-    write(rt, b"bin 63", 63, &[LAST; 32], 31, &mut [])?;
-    write(rt, b"bin 63", 63, &[LAST; 32], 30, &mut [])?;
-    write(rt, b"bin 63", 64, &[LAST; 32], 30, &mut [])
+    write(rt, Rail::of("bin 63", 65, &[LAST; 33]), 31, &mut [])?;
+    write(rt, Rail::of("bin 63", 63, &[LAST; 33]), 31, &mut [])?;
+    write(rt, Rail::of("bin 63", 63, &[LAST; 32]), 31, &mut [])?;
+    write(rt, Rail::of("bin 63", 63, &[LAST; 32]), 30, &mut [])?;
+    write(rt, Rail::of("bin 63", 64, &[LAST; 32]), 30, &mut [])
 }

@@ -1,91 +1,60 @@
-// What a line is made of: words, numbers, sets of bins and rooms, on standard output.
-use std::io::{self, Write};
+// What the lines show besides words and numbers: rows of bytes, and of outlets.
+use std::fmt;
 
 // What a place of a lent room holds before a call: no order, no sheet and no outlet here has it.
 pub const BEFORE: u8 = 170;
 
 pub const SET_BEFORE: u64 = 170;
 
-pub fn words(rt: &impl Print, text: &[u8]) -> io::Result<()> {
-    io::writer(rt).write_all(text)
-}
-
-// Words, and the number after them.
-pub fn number(rt: &impl Print, text: &[u8], n: u64) -> io::Result<()> {
-    words(rt, text)?;
-    print!(rt; "{n}")
-}
-
-// What is asked of an operation that takes a job and a room.
-pub fn job(
-    rt: &impl Print,
-    name: &[u8],
-    bins: u64,
-    outlets: usize,
-    budget: u64,
-    room: usize,
-) -> io::Result<()> {
-    words(rt, name)?;
-    number(rt, b": bins ", bins)?;
-    number(rt, b", outlets ", outlets as u64)?;
-    number(rt, b", budget ", budget)?;
-    number(rt, b", a room of ", room as u64)
-}
-
-fn byte(rt: &impl Print, value: u8) -> io::Result<()> {
-    if value == BEFORE {
-        words(rt, b" -")
-    } else {
-        number(rt, b" ", value as u64)
-    }
-}
-
-// The bytes of an order or of a sheet, or of a room for one.
-pub fn bytes(rt: &impl Print, room: &[u8]) -> io::Result<()> {
-    for value in room {
-        byte(rt, *value)?;
-    }
-    Ok(())
-}
-
 // A set by its bins, as `{ 0 2 3 }`.
-fn bins(rt: &impl Print, set: u64) -> io::Result<()> {
-    words(rt, b" {")?;
-    for bin in 0..64u64 {
-        if set >> bin & 1 == 1 {
-            number(rt, b" ", bin)?;
+#[derive(Clone, Copy)]
+struct Set(u64);
+
+impl fmt::Display for Set {
+    fn fmt<W: fmt::Write>(&self, f: &mut fmt::Formatter<W>) -> fmt::Result {
+        write!(f, "{{")?;
+        for bin in (0..64u64).filter(|bin| self.0 >> *bin & 1 == 1) {
+            write!(f, " {bin}")?;
+        }
+        write!(f, " }}")
+    }
+}
+
+// The places of a row, each behind a blank; one that a call left as it was is a `-`.
+fn places<W: fmt::Write, T: Copy + PartialEq, D: fmt::Display + Drop, F: Fn(T) -> D>(
+    f: &mut fmt::Formatter<W>,
+    row: &[T],
+    before: T,
+    shown: F,
+) -> fmt::Result
+    requires { F.IsAlwaysCallable shown }
+{
+    for place in row {
+        if *place == before {
+            write!(f, " -")?;
+        } else {
+            write!(f, " {}", shown(*place))?;
         }
     }
-    words(rt, b" }")
-}
-
-fn outlet(rt: &impl Print, set: u64) -> io::Result<()> {
-    if set == SET_BEFORE {
-        words(rt, b" -")
-    } else {
-        bins(rt, set)
-    }
-}
-
-// The outlets of a rail, or of a room for them.
-pub fn outlets(rt: &impl Print, room: &[u64]) -> io::Result<()> {
-    for set in room {
-        outlet(rt, *set)?;
-    }
     Ok(())
 }
 
-// A room of bytes, to the line's end.
-pub fn room(rt: &impl Print, bytes_in_it: &[u8]) -> io::Result<()> {
-    words(rt, b", room")?;
-    bytes(rt, bytes_in_it)?;
-    words(rt, b"\n")
+// An order, a sheet, or a room for one.
+#[derive(Clone, Copy)]
+pub struct Bytes<'a>(pub &'a [u8]);
+
+impl fmt::Display for Bytes<'_> {
+    fn fmt<W: fmt::Write>(&self, f: &mut fmt::Formatter<W>) -> fmt::Result {
+        places(f, self.0, BEFORE, |byte| byte)
+    }
 }
 
-// What a search answers.
-pub fn found(rt: &impl Print, answer: search::Found, bytes_in_room: &[u8]) -> io::Result<()> {
-    number(rt, b": number ", answer.number)?;
-    number(rt, b", crossings ", answer.crossings)?;
-    number(rt, b", cases ", answer.cases)?;
-    room(rt, bytes_in_room)
+// The outlets of a rail, or a room for them.
+#[derive(Clone, Copy)]
+pub struct Outlets<'a>(pub &'a [u64]);
+
+impl fmt::Display for Outlets<'_> {
+    fn fmt<W: fmt::Write>(&self, f: &mut fmt::Formatter<W>) -> fmt::Result {
+        places(f, self.0, SET_BEFORE, |outlet| Set(outlet))
+    }
 }

@@ -1,6 +1,7 @@
 // Pairs of outlets, and orders as someone types them: counted, or refused.
-use crate::limits::{FULL, LAST};
-use crate::print;
+use crate::answers::Counted;
+use crate::asked::{FULL, LAST, Rail, THREE};
+use crate::print::Bytes;
 use std::io;
 
 pub const BY_NUMBER: [u8; 32] = [
@@ -9,69 +10,56 @@ pub const BY_NUMBER: [u8; 32] = [
 ];
 
 // cross both ways.
-fn pair(rt: &impl Print, name: &[u8], a: u64, b: u64) -> io::Result<()> {
-    print::words(rt, name)?;
-    print::number(rt, b": cross ", hoses::pair(a, b))?;
-    print::number(rt, b", the other way ", hoses::pair(b, a))?;
-    print::words(rt, b"\n")
+fn pair(rt: &impl Print, name: &str, a: u64, b: u64) -> io::Result<()> {
+    println!(rt;
+        "{name}: cross {}, the other way {}",
+        hoses::pair(a, b),
+        hoses::pair(b, a)
+    )
 }
 
 pub fn pairs(rt: &impl Print) -> io::Result<()> {
-    pair(rt, b"all bins and all bins", FULL, FULL)?;
-    pair(rt, b"all bins and no hose", FULL, 0)?;
-    pair(rt, b"all bins and bin 63", FULL, LAST)?;
-    pair(rt, b"bin 63 and bin 0", LAST, 1)?;
-    pair(rt, b"bin 63 and bin 63", LAST, LAST)?;
-    pair(rt, b"twin", 0b11, 0b11)?;
-    pair(rt, b"fork", 0b101, 0b010)?;
-    pair(rt, b"trident", 0b1101, 0b0010)
+    pair(rt, "all bins and all bins", FULL, FULL)?;
+    pair(rt, "all bins and no hose", FULL, 0)?;
+    pair(rt, "all bins and bin 63", FULL, LAST)?;
+    pair(rt, "bin 63 and bin 0", LAST, 1)?;
+    pair(rt, "bin 63 and bin 63", LAST, LAST)?;
+    pair(rt, "twin", 0b11, 0b11)?;
+    pair(rt, "fork", 0b101, 0b010)?;
+    pair(rt, "trident", 0b1101, 0b0010)
 }
 
-// An order counted. The name says which bins the outlets have.
-pub fn counted(
-    rt: &impl Print,
-    name: &[u8],
-    bins: u64,
-    outlets: &[u64],
-    order: &[u8],
-) -> io::Result<()> {
-    print::words(rt, name)?;
-    print::number(rt, b": bins ", bins)?;
-    print::number(rt, b", outlets ", outlets.len() as u64)?;
-    print::words(rt, b", order")?;
-    print::bytes(rt, order)?;
-    let answer = orders::count(bins, outlets, order);
-    print::number(rt, b": number ", answer.number)?;
-    print::number(rt, b", crossings ", answer.crossings)?;
-    print::words(rt, b"\n")
-}
-
-fn of_three(rt: &impl Print, order: &[u8]) -> io::Result<()> {
-    counted(rt, b"three", 4, &[0b1101, 0b0010, 0b1001], order)
+// An order counted.
+pub fn counted(rt: &impl Print, rail: Rail, order: &[u8]) -> io::Result<()> {
+    let answer = Counted(orders::count(rail.bins, rail.outlets, order));
+    println!(rt; "{rail}, order{}: {answer}", Bytes(order))
 }
 
 pub fn orders(rt: &impl Print) -> io::Result<()> {
-    of_three(rt, &[0, 1, 2])?;
-    of_three(rt, &[0, 2, 1])?;
-    of_three(rt, &[1, 0, 2])?;
-    of_three(rt, &[1, 2, 0])?;
-    of_three(rt, &[2, 0, 1])?;
-    of_three(rt, &[2, 1, 0])?;
-    counted(rt, b"empty", 0, &[], &[])?;
-    counted(rt, b"all bins", 64, &[FULL; 32], &BY_NUMBER)
+    for order in [
+        [0, 1, 2],
+        [0, 2, 1],
+        [1, 0, 2],
+        [1, 2, 0],
+        [2, 0, 1],
+        [2, 1, 0],
+    ] {
+        counted(rt, THREE, &order)?;
+    }
+    counted(rt, Rail::of("empty", 0, &[]), &[])?;
+    counted(rt, Rail::of("all bins", 64, &[FULL; 32]), &BY_NUMBER)
 }
 
 // Not an order is 7: wrong length, an outlet not on the rail, or one repeated. Check order 1, 2, 4, 7.
 pub fn no_orders(rt: &impl Print) -> io::Result<()> {
-    of_three(rt, &[])?;
-    of_three(rt, &[1, 0])?;
-    of_three(rt, &[1, 0, 2, 1])?;
-    of_three(rt, &[1, 0, 3])?;
-    of_three(rt, &[255, 1, 0])?;
-    of_three(rt, &[1, 1, 0])?;
-    of_three(rt, &[1, 0, 1])?;
-    counted(rt, b"bin 63", 65, &[LAST; 33], &[])?;
-    counted(rt, b"bin 63", 63, &[LAST; 33], &[])?;
-    counted(rt, b"bin 63", 63, &[LAST; 32], &[])?;
-    counted(rt, b"bin 63", 64, &[LAST; 32], &[])
+    counted(rt, THREE, &[])?;
+    counted(rt, THREE, &[1, 0])?;
+    counted(rt, THREE, &[1, 0, 2, 1])?;
+    for order in [[1, 0, 3], [255, 1, 0], [1, 1, 0], [1, 0, 1]] {
+        counted(rt, THREE, &order)?;
+    }
+    counted(rt, Rail::of("bin 63", 65, &[LAST; 33]), &[])?;
+    counted(rt, Rail::of("bin 63", 63, &[LAST; 33]), &[])?;
+    counted(rt, Rail::of("bin 63", 63, &[LAST; 32]), &[])?;
+    counted(rt, Rail::of("bin 63", 64, &[LAST; 32]), &[])
 }

@@ -1,5 +1,0 @@
--- The number falls: a call is for a tenth of it.
-use Rattle.lines.proofs.+put_number.Given as goal
-
-abbrev pub decreases-put_number : goal.decreases-put_number
-decreases-put_number l = l.n
