@@ -56,7 +56,7 @@ extern "C" {
 
 #define RAIL_UNWRITTEN 255
 
-/* Measured: rail_search took 15,864 bytes at most, every other function less than 400. `bash tests/c/run` fails where a call takes more than this. */
+/* Measured: rail_search took 14,760 bytes at most, every other function less than 400. `bash tests/c/run` fails where a call takes more than this. */
 #define RAIL_STACK 24576
 
 typedef struct { uint64_t number, crossings; }               rail_counted;

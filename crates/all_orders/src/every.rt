@@ -1,4 +1,5 @@
-// All orders of at most six outlets and the least crossings of any, by costs that are counted hose against hose.
+// All orders of at most six outlets and the least crossings of any, by costs that are counted hose against hose, and not by the library, which is held
+// against them.
 ghost use Rattle.std.specs.Prelude.{◌<◌, ◌≤◌, length};
 
 use crate::tally::Count;

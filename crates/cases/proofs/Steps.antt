@@ -150,7 +150,7 @@ module _ (T : Tables) (rows : List ℕ) (from a b rest : ℕ) (k : CaseOf T rows
     -- which need not be opened where it is a leaf of the walk,
     pub trial_leaf : LeafIn T rows rest cost left right true → (room : List ℕ) → Trial T rows a b rest 1 false room
     trial_leaf l room =
-        let q = l.some.leaves refl c T.held a b p.brings in
+        let q = l.some.leaves refl a b p.brings in
         let none : rest - cost ≡ 0 = omega (arith, l.all refl) in
         record {
           tells =

@@ -89,4 +89,4 @@ pub record Paying (t : Tables) (rows : List ℕ) (from a b rest cost left right 
 -- where the answer is yes, a placement takes the whole rest and leaves a pair unplaced
 pub record LeafIn (t : Tables) (rows : List ℕ) (rest cost left right : ℕ) (answer : Bool) : Type 0 where
   pub all : answer ≡ true → rest ≤ cost
-  pub some : LeavesUnplaced (outlets_of t) t.masks.now rows left right answer
+  pub some : LeavesUnplaced (outlets_of t) rows left right answer

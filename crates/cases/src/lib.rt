@@ -13,8 +13,8 @@ ghost use Rattle.cases.specs.Case.{Opened, Settled, Tried, Trial};
 use placements::{Placement, Relation};
 use tables::{CostTable, Tables};
 
-// What is answered of a case or of a way to go on from it: the cases opened, and whether an order was found. The relation that makes it then stands
-// in the room.
+// What is answered of a case or of a way to go on from it: the cases opened, which a yes and a no tell alike, and whether an order was found. The
+// relation that makes it then stands in the room.
 #[derive(Clone, Copy)]
 pub struct Outcome {
     pub cases: u64,
@@ -67,6 +67,7 @@ fn try_both(
     ensures { Tried tables.now relation.now.rows way.left way.right rest result.cases result.found room.new.rows }
 {
     let mut opened = go(tables, relation, rest, from, way, room);
+    // the case itself
     opened.cases += 1;
     if opened.found {
         return opened;

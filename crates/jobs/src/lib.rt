@@ -1,5 +1,6 @@
 // The checks of a job, once for every operation that takes one: 1 (bins), 2 (outlets), 3 (budget) and 4 (a hose from no bin of the row).
-// Each refuses by the number that the rules' definition of its check says.
+// Each refuses by the number that the rules' definition of its check says. Bins, outlets and budget come one by one, as the C face has them: nothing is
+// known of them yet that a struct could keep.
 #![tactic(auto)]
 
 ghost use Rattle.std.specs.Prelude.{◌≡◌, IfErr};
@@ -15,7 +16,7 @@ pub const MOST_OUTLETS: usize = 32;
 
 pub const MOST_BUDGET: u64 = 30;
 
-// stands for a budget that is not written
+// stands for a budget that is not written: a number and no option, since calls and sheets have it so, and write it back
 pub const NOT_WRITTEN: u64 = 255;
 
 // 3: budget above 30, other than 255 for "not written"

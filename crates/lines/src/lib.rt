@@ -1,5 +1,6 @@
 // The line that the program prints for a sheet: its words, numbers in decimal, single blanks, a line feed at the end.
-// The parts of a line are put in front of the room that is left; each function answers how many bytes it put.
+// The parts of a line are put in front of the room that is left; each function answers how many bytes it put. It is no Display: of what that prints a
+// contract can speak in a String only, which allocates.
 #![tactic(auto)]
 
 ghost use Rattle.std.specs.Prelude.{◌≡◌, ◌++◌, ◌≤◌, length};
@@ -98,7 +99,7 @@ fn order_line(room: &mut [u8], order: &[u8], crossings: u64, cases: u64) -> usiz
     last + put_last(&mut room[last..], b" cases ", cases)
 }
 
-// Number 6: `refused 6 cases` and the count.
+// Number 6: `refused 6 cases` and the count. A line of its own in the rules, as the next one: what the two share is `put_last`.
 #[tactic(auto, using(crate::proofs::Laws::no_order_parts), unfolding(rules::specs::Text::text))]
 fn no_order_line(room: &mut [u8], cases: u64) -> usize
     requires { length (no_order_line cases) ≤ length room.old }
@@ -108,7 +109,7 @@ fn no_order_line(room: &mut [u8], cases: u64) -> usize
     put_last(room, b"refused 6 cases ", cases)
 }
 
-// Others: `refused` and the number.
+// Others: `refused` and the number, which is what the rules' line is of.
 #[tactic(auto, using(crate::proofs::Laws::refused_parts), unfolding(rules::specs::Text::text))]
 fn refused_line(room: &mut [u8], number: u64) -> usize
     requires { length (refused_line number) ≤ length room.old }
@@ -134,7 +135,8 @@ fn answer_line(room: &mut [u8], answer: Result<Found, Refusal>, order: &[u8]) ->
     }
 }
 
-// Makes the line of a sheet in front of a lent room, and answers its length. The longest line has 119 bytes.
+// Makes the line of a sheet in front of a lent room, and answers its length. The longest line has 119 bytes. Its own
+// rooms are fixed: nothing is allocated.
 #[tactic(auto, using(rules::proofs::LongestLine::refused_at_most), unfolding(rules::specs::Line::own_room))]
 pub fn line(sheet: &[u8], room: &mut [u8; 119]) -> usize
     ensures { LineMade sheet.now room.old (record { length = result; room = room.new }) }

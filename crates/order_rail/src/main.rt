@@ -5,7 +5,7 @@ ghost use Rattle.std.specs.Prelude.{◌≤◌, length, IfOk};
 
 use std::io::{self, Read, Write};
 
-// The longest sheet has 7 + 32 x 68 bytes.
+// The longest sheet has 7 + 32 x 68 bytes. Its room is fixed: nothing is allocated.
 const LONGEST_SHEET: usize = 2183;
 
 // Reads until the room is full or the input ends, and answers what it read: the front of the room. A loop over `read`, since

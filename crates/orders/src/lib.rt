@@ -13,7 +13,7 @@ ghost use Rattle.orders.specs.Told.{count_told};
 use on_rail::OnRail;
 use refusals::Refusal;
 
-// The place of the first outlet that isn't on the rail or repeats, which is where the check stops.
+// The place of the first outlet that isn't on the rail or repeats, which is where the check stops. Two loops and a label: docs/CONTRACTS.md has the form.
 pub fn first_bad(outlets: usize, order: &[u8]) -> Option<usize>
     ensures { MatchOption result
         (first_bad outlets order.now ≡ length order.now)

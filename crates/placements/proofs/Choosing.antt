@@ -3,7 +3,7 @@
 use mathlib.Core.Bool.{Bool, true, false, not, ◌&&◌}
 use mathlib.Core.List.{List}
 use mathlib.Core.Path.{◌≡◌, refl, sym, ◌∙◌, ap}
-use Prim.Native.Nat.{ℕ, ◌*◌, ◌^◌, ◌≤◌, ◌<◌}
+use Prim.Native.Nat.{ℕ, ◌^◌, ◌≤◌, ◌<◌}
 use native.Mathlib.Omega.{arith}
 use native.Mathlib.Nat.{lt_of_lt_of_le}
 use native.Mathlib.Decide.{dec_lt}
@@ -25,7 +25,7 @@ use Rattle.placements.proofs.Masks.{has, has_none, has_nothing}
 
 -- b is above a, unplaced with it, and their two cross values differ
 abbrev pub opens : List ℕ → List ℕ → ℕ → ℕ → Bool
-opens masks rows a b = has (get_or masks (2 * a) 0) b && unplaced (reads rows) a b
+opens masks rows a b = has (get_or masks a 0) b && unplaced (reads rows) a b
 
 -- the outlets handed over of a
 abbrev pub OpenAt : List ℕ → List ℕ → ℕ → ℕ → Type 0

@@ -10,7 +10,7 @@ use lib.Count.{count_trailing_zeros}
 use lib.Dec.{ltb}
 use lib.ListN.{get_or}
 use lib.Pow.{pow-lt}
-use Rattle.rules.specs.Crossing.{Relation, Cost}
+use Rattle.rules.specs.Crossing.{Relation}
 use Rattle.rules.specs.Placement.{place}
 use Rattle.rules.specs.Walk.{unplaced}
 use Rattle.rules.proofs.Sums.{and_left, and_right}
@@ -18,7 +18,7 @@ use Rattle.laws.proofs.Terms.{Strict}
 use Rattle.laws.proofs.Tests.{or_first, or_second, never_both, not_passed}
 use Rattle.laws.proofs.Placing.{unplaced_if, unplaced_not, unplaced_back}
 use Rattle.hoses.proofs.Bits.{shl_one, lowest_within, lowest_set}
-use Rattle.tables.specs.Tables.{Masks}
+use Rattle.tables.specs.Tables.{Passed}
 use Rattle.placements.specs.Rows.{reads, Rows, Brings, SomeUnplaced, LeavesUnplaced}
 use Rattle.placements.proofs.Masks.{has, has_or, has_one, has_without}
 use Rattle.placements.proofs.Reading.{has_left}
@@ -47,18 +47,18 @@ touched_of rows left right u =
 abbrev pub left_of : ℕ → List ℕ → ℕ → ℕ → ℕ → ℕ
 left_of mask rows left right u = bit_and mask ((2 ^ 32 - 1) - touched_of rows left right u)
 
--- where that is not nothing of the outlets above the first, it has one that u is unplaced with and stays so
-module _ (n : ℕ) (masks rows : List ℕ) (left right u : ℕ) (few : n ≤ 32) (held : Rows rows) (below : u < n)
-    (some : left_of (get_or masks 1 0) rows left right u ≡ 0 → ⊥) where
-  module _ (c : Cost) (of : Masks n c masks) (a b : ℕ) (brings : Brings rows a b left right) where
+-- where that is not nothing of outlets above the first, it has one that u is unplaced with and stays so
+module _ (n mask : ℕ) (rows : List ℕ) (left right u : ℕ) (fits : mask < 2 ^ 32) (of : Passed mask n (λ v. ltb 0 v)) (few : n ≤ 32) (held : Rows rows) (below : u < n)
+    (some : left_of mask rows left right u ≡ 0 → ⊥) where
+  module _ (a b : ℕ) (brings : Brings rows a b left right) where
     abbrev set : ℕ
-    set = left_of (get_or masks 1 0) rows left right u
+    set = left_of mask rows left right u
 
     abbrev v : ℕ
     v = count_trailing_zeros 32 set
 
     within : v < 32
-    within = lowest_within 32 set (omega arith) (omega (arith, of.fit 1, and_le_l (get_or masks 1 0) ((2 ^ 32 - 1) - touched_of rows left right u)))
+    within = lowest_within 32 set (omega arith) (omega (arith, fits, and_le_l mask ((2 ^ 32 - 1) - touched_of rows left right u)))
 
     one : (1 * 2 ^ u) % 2 ^ 32 ≡ 2 ^ u
     one = shl_one 32 u (omega arith)
@@ -69,16 +69,16 @@ module _ (n : ℕ) (masks rows : List ℕ) (left right u : ℕ) (few : n ≤ 32)
         or_lt 32 _ _ (or_lt 32 _ _ (or_lt 32 _ _ (held.fit (2 * u)) (held.fit (2 * u + 1))) (or_lt 32 left right brings.left_fits brings.right_fits))
         (rw one (pow-lt small))
 
-    there : (has (get_or masks 1 0) v && not (has (touched_of rows left right u) v)) ≡ true
+    there : (has mask v && not (has (touched_of rows left right u) v)) ≡ true
     there =
-        sym (has_without 32 (get_or masks 1 0) (touched_of rows left right u) v (of.fit 1) touched_fits)
+        sym (has_without 32 mask (touched_of rows left right u) v fits touched_fits)
         ∙ eq-eqb _ 1 (lowest_set 32 set within)
 
     some_left : SomeUnplaced n (place (reads rows) a b)
     unfolding reads
     some_left =
-        let masked : (ltb v n && ltb 0 v) ≡ true = sym (of.above 0 v (omega arith)) ∙ and_left (has (get_or masks 1 0) v) _ there in
-        let other = outside _ _ v (not-true (has (touched_of rows left right u) v) (and_right (has (get_or masks 1 0) v) _ there)) in
+        let masked : (ltb v n && ltb 0 v) ≡ true = sym (of v) ∙ and_left (has mask v) _ there in
+        let other = outside _ _ v (not-true (has (touched_of rows left right u) v) (and_right (has mask v) _ there)) in
         let rest = outside _ _ v other.0 in
         let placed = outside _ _ v rest.0 in
         let new = outside left right v rest.1 in
@@ -97,5 +97,5 @@ module _ (n : ℕ) (masks rows : List ℕ) (left right u : ℕ) (few : n ≤ 32)
               };
         }
 
-  pub leaves_here : LeavesUnplaced n masks rows left right true
-  leaves_here = record { leaves = λ e c of a b brings. some_left c of a b brings }
+  pub leaves_here : LeavesUnplaced n rows left right true
+  leaves_here = record { leaves = λ e a b brings. some_left a b brings }

@@ -14,10 +14,10 @@ use Rattle.rules.specs.Sum.{sum, pair_sum, only_if}
 use Rattle.rules.specs.Crossing.{Relation, Cost, bit}
 use Rattle.rules.specs.Placement.{place, price, spent}
 use Rattle.rules.specs.Walk.{unplaced, equal_costs}
-use Rattle.rules.proofs.Sums.{and_left, sum_cong, sum-none, sum_rest, pair_sum_cong, only_if_not, only_if_and, sum_only_if}
+use Rattle.rules.proofs.Sums.{and_left, sum_cong, sum-none, sum_rest, only_if_not, only_if_most, only_if_and, sum_only_if}
 use Rattle.laws.proofs.Tests.{not_passed}
 use Rattle.hoses.proofs.Bits.{bit-most, bit-none}
-use Rattle.tables.specs.Tables.{cost_in, Costs, Masks}
+use Rattle.tables.specs.Tables.{cost_in, Costs, Passed}
 use Rattle.placements.specs.Rows.{reads, Rows, Within, Brings}
 use Rattle.placements.proofs.Masks.{Taken, has, has_without, bit_counts}
 use Rattle.placements.proofs.Reading.{open_of, has_open, left_within, right_within}
@@ -81,15 +81,30 @@ to_pay_within g which n t h same within =
 abbrev pub new_of : ℕ → List ℕ → ℕ → ℕ
 new_of right rows u = bit_and right ((2 ^ 32 - 1) - get_or rows (2 * u) 0)
 
--- what u pays, by a table: for those on its right, for those above it that are unplaced with it, and for those that are new on its right
+-- what u pays: for those on its right, for those above it that are unplaced with it, and for those that are new on its right
 abbrev pub placed_pays : List ℕ → List ℕ → ℕ → ℕ
 placed_pays rows costs u = to_pay (cost_in costs u) (get_or rows (2 * u) 0)
 
-abbrev pub unplaced_pays : List ℕ → List ℕ → List ℕ → ℕ → ℕ
-unplaced_pays rows masks costs u = to_pay (cost_in costs u) (open_of (get_or masks (2 * u + 1) 0) rows u)
+abbrev pub unplaced_pays : ℕ → Cost → List ℕ → ℕ → ℕ
+unplaced_pays n c rows u = sum (λ v. only_if (ltb u v && unplaced (reads rows) u v) (c u v)) n
 
 abbrev pub new_pays : List ℕ → List ℕ → ℕ → ℕ → ℕ
 new_pays rows costs right u = to_pay (cost_in costs u) (new_of right rows u)
+
+-- together the outlets pay for all unplaced pairs
+pub unplaced_rows : (n : ℕ) (c : Cost) (rows : List ℕ) → sum (unplaced_pays n c rows) n ≡ equal_costs n c (reads rows)
+unfolding equal_costs pair_sum
+unplaced_rows n c rows = refl
+
+-- by a table none of them pays more than 32 times one pair's most
+pub unplaced-most : (costs rows : List ℕ) → Costs costs → (n m : ℕ) → n ≤ 32 → sum (unplaced_pays n (cost_in costs) rows) m ≤ m * 64512
+unfolding cost_in
+unplaced-most costs rows table n m few =
+    sum-most (unplaced_pays n (cost_in costs) rows) 64512 m
+    (λ u.
+    let each = sum-most (λ v. only_if (ltb u v && unplaced (reads rows) u v) (cost_in costs u v)) 2016 n
+    (λ v. omega (arith, only_if_most (ltb u v && unplaced (reads rows) u v) (cost_in costs u v), table.most (32 * u + v))) in
+    omega (arith, each))
 
 module _ (n : ℕ) (c : Cost) (small : n ≤ 32) where
   -- each outlet below n pays for those in its row
@@ -104,20 +119,14 @@ module _ (n : ℕ) (c : Cost) (small : n ≤ 32) where
   unfolding spent reads
   spent_rows rows w = rows_pay (λ u. get_or rows (2 * u) 0) (reads rows) (λ u v l. refl) w.second
 
-  pub equal_rows : (masks rows : List ℕ) → Rows rows → Masks n c masks
-      → sum (λ u. to_pay (c u) (open_of (get_or masks (2 * u + 1) 0) rows u)) n ≡ equal_costs n c (reads rows)
-  unfolding equal_costs
-  equal_rows masks rows held above =
-      rows_pay (λ u. open_of (get_or masks (2 * u + 1) 0) rows u) (λ u v. (ltb v n && ltb u v) && unplaced (reads rows) u v) same within
-      ∙ pair_sum_cong _ _ n (λ u v l m. ap (λ (t : Bool). only_if ((t && ltb u v) && unplaced (reads rows) u v) (c u v)) (lt-ltb v n m))
-    where
-      same : (u v : ℕ) → u < n → has (open_of (get_or masks (2 * u + 1) 0) rows u) v ≡ ((ltb v n && ltb u v) && unplaced (reads rows) u v)
-      same u v l =
-          has_open (get_or masks (2 * u + 1) 0) rows u v (above.fit (2 * u + 1)) held
-          ∙ ap (λ (t : Bool). t && unplaced (reads rows) u v) (above.above u v l)
-
-      within : (u v : ℕ) → ((ltb v n && ltb u v) && unplaced (reads rows) u v) ≡ true → v < n
-      within u v e = ltb-true v n (and_left (ltb v n) _ (and_left (ltb v n && ltb u v) _ e))
+  -- so does u for those of a set of the outlets above it that are unplaced with it
+  pub unplaced_row : (rows : List ℕ) (u mask : ℕ) → Rows rows → mask < 2 ^ 32 → Passed mask n (λ v. ltb u v)
+      → to_pay (c u) (open_of mask rows u) ≡ unplaced_pays n c rows u
+  unplaced_row rows u mask held fits above =
+      to_pay_within (c u) (open_of mask rows u) n (λ v. (ltb v n && ltb u v) && unplaced (reads rows) u v) small
+      (λ v. has_open mask rows u v fits held ∙ ap (λ (t : Bool). t && unplaced (reads rows) u v) (above v))
+      (λ v e. ltb-true v n (and_left (ltb v n) _ (and_left (ltb v n && ltb u v) _ e)))
+      ∙ sum_cong _ _ n (λ v l. ap (λ (t : Bool). only_if ((t && ltb u v) && unplaced (reads rows) u v) (c u v)) (lt-ltb v n l))
 
   -- The new ones on the left pay for those new on the right that did not stand right of them.
   pub price_rows : {rows : List ℕ} {a b left right : ℕ} → Brings rows a b left right → Rows rows → Within n rows → a < n → b < n

@@ -110,5 +110,5 @@ pub record SomeUnplaced (n : ℕ) (R : Relation) : Type 0 where
   pub pair : UnplacedPair n R u v
 
 -- where the answer is yes, a placement leaves some
-pub record LeavesUnplaced (n : ℕ) (masks rows : List ℕ) (left right : ℕ) (answer : Bool) : Type 0 where
-  pub leaves : answer ≡ true → (c : Cost) → Masks n c masks → (a b : ℕ) → Brings rows a b left right → SomeUnplaced n (place (reads rows) a b)
+pub record LeavesUnplaced (n : ℕ) (rows : List ℕ) (left right : ℕ) (answer : Bool) : Type 0 where
+  pub leaves : answer ≡ true → (a b : ℕ) → Brings rows a b left right → SomeUnplaced n (place (reads rows) a b)

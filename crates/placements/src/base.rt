@@ -7,7 +7,7 @@ ghost use Rattle.placements.specs.Rows.{Put, BaseOf};
 use super::Relation;
 use tables::CostTable;
 
-// Does the base place outlet a left of outlet b?
+// Does the base place outlet a left of outlet b? (`CostsOf` ties the table to the rail that is asked about, which a table doesn't hold.)
 fn goes_first(outlets: &[u64], costs: &CostTable, a: usize, b: usize) -> bool
     requires { (length outlets.now ≤ 32) × (a < length outlets.now) × (b < length outlets.now) × CostsOf outlets.now costs.now.pairs }
     ensures { result ≡ root outlets.now a b }
@@ -31,7 +31,7 @@ fn goes_first(outlets: &[u64], costs: &CostTable, a: usize, b: usize) -> bool
 
 // a stands left of b, in the rows of both.
 fn put(rows: &mut [u32; 64], a: usize, b: usize)
-    requires { (a < 32) × (b < 32) × (length rows.old ≡ 64) }
+    requires { (a < 32) × (b < 32) }
     ensures { Put rows.old a b rows.new }
 {
     rows[2 * a] |= 1 << b;

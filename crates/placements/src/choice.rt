@@ -13,7 +13,7 @@ impl Relation {
     fn open(&self, tables: &Tables, a: usize) -> u32
         requires { (a < 32) × Rows self.now.rows }
         ensures { (v : ℕ) → v < 32
-            → eqb (bit result v) 1 ≡ (eqb (bit (get_or tables.now.masks.now (2 * a) 0) v) 1 && unplaced (reads self.now.rows) a v) }
+            → eqb (bit result v) 1 ≡ (eqb (bit (get_or tables.now.masks.now a 0) v) 1 && unplaced (reads self.now.rows) a v) }
     {
         tables.differing(a) & !self.placed_with(a)
     }
@@ -32,7 +32,7 @@ impl Relation {
         None
     }
 
-    // The smallest b beside a.
+    // The smallest b beside a. (A number of 32 bits becomes a place by `as`: there is no From.)
     pub fn partner(&self, tables: &Tables, a: usize) -> usize
         requires { (a < 32) × Rows self.now.rows }
         ensures { PartnerIn tables.now.masks.now self.now.rows a result }
@@ -43,7 +43,7 @@ impl Relation {
     // Does a placement leave an outlet unplaced with another? Of those that it does not touch some are looked at, so that only a yes says something.
     pub fn leaves_unplaced(&self, tables: &Tables, placement: Placement, from: usize) -> bool
         requires { Rows self.now.rows }
-        ensures { LeavesUnplaced tables.now.costs.now.outlets tables.now.masks.now self.now.rows placement.left placement.right result }
+        ensures { LeavesUnplaced tables.now.costs.now.outlets self.now.rows placement.left placement.right result }
     {
         let touched = placement.left | placement.right;
         for u in from..tables.costs.outlets {

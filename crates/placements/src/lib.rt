@@ -14,8 +14,10 @@ ghost use Rattle.placements.specs.Rows.{reads, Rows, Brings, PlacedIn};
 
 use closure::Side;
 
+// That the rows hold a relation (`Rows`) is said in clauses, and kept by no type: `place` answers for any placement, and `of` for any rows.
 #[derive(Clone, Copy)]
 pub struct Relation {
+    // One array for both sides: what holds of a side is said once, by the side's number; two rows in a struct would have it said of each.
     pub rows: [u32; 64],
 }
 
@@ -29,9 +31,9 @@ pub struct Placement {
 }
 
 impl Relation {
-    // The relation that rows hold. They are copied as two halves, each of which is a few moves of the machine's; all 64 at once would be a call.
+    // The relation that rows hold. They are copied as two halves, each of which is a few moves of the machine's: the derived copy was tried, and is a
+    // call that seven rows of the speed test miss their bars by.
     pub fn of(rows: &[u32; 64]) -> Relation
-        requires { length rows.now ≡ 64 }
         ensures { result.rows ≡ rows.now }
     {
         let mut copy = [0; 64];
@@ -42,7 +44,7 @@ impl Relation {
         Relation { rows: copy }
     }
 
-    // Those that stand right of u.
+    // Those that stand right of u. (Named for its side, as the next one: a `Side` is handed on only where either is meant.)
     fn right_of(&self, u: usize) -> u32
         requires { u < 32 }
         ensures { result ≡ get_or self.now.rows (2 * u) 0 }

@@ -1,5 +1,6 @@
 // What the C functions answer: structs of numbers by value, made of what the operations answer.
 // A refusal has its number and 0 for every other number, but for the cases of 6 and the place that the next record was asked at.
+// The C interface needs each as it stands in rail.h: the numbers, and a struct for each answer, also where two are alike.
 ghost use Rattle.std.specs.Prelude.{◌≡◌, ℕ, List};
 ghost use Rattle.orders.specs.Told.{count_told};
 ghost use Rattle.search.specs.Told.{search_told};

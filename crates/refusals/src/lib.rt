@@ -22,7 +22,7 @@ pub enum Refusal {
 }
 
 impl Refusal {
-    // Its number in the list.
+    // Its number in the list. (A method, since `u64::from` would not say which number.)
     pub fn number(self) -> u64
         ensures { result ≡ number_of self }
     {

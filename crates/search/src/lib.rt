@@ -50,7 +50,7 @@ fn walk(outlets: &[u64], k: u64, room: &mut [u8]) -> Result<Found, Refusal>
     if k < spent {
         return Err(Refusal::NoOrder { cases: 0 });
     }
-    let mut masks = [0; 64];
+    let mut masks = [0; 32];
     costs.masks(&mut masks);
     let tables = Tables {
         costs: &costs,

@@ -10,7 +10,7 @@ use lib.ListN.{length, take, drop, set, length-set}
 use lib.Seq.{take-suc-set, append_snoc, length-take-le}
 use Rattle.std.proofs.Common.{take_all}
 use Rattle.refusals.specs.declared.Refusal.{Refusal}
-use Rattle.refusals.specs.declared.Refusal.TheVariants.{TooManyBins, TooManyOutlets, BadBudget, StrayHose, RoomTooShort, NoOrder, NotAnOrder, SheetEnds, WrongKind, BadLength, NotRising, BytesAfter}
+use Rattle.refusals.proofs.Refuses.{positive}
 use Rattle.refusals.specs.Numbers.{number_of}
 use Rattle.rules.specs.Crossing.{set_of}
 use Rattle.rules.specs.Numbers.{first_of}
@@ -19,21 +19,6 @@ use Rattle.rules.specs.Read.{then, head_bins, head_outlets, head_budget, head_nu
 use Rattle.sheets.proofs.RecordLaws.{record_fits, body_starts, head_fits}
 use Rattle.sheets.proofs.HeadLaws.{GoodHead, is_good_head}
 use Rattle.rules.proofs.Read.{then-first, then_later, then-passed}
-
--- no refusal has number 0
-pub positive : (refusal : Refusal) → 0 < number_of refusal
-positive TooManyBins = omega arith
-positive TooManyOutlets = omega arith
-positive BadBudget = omega arith
-positive StrayHose = omega arith
-positive RoomTooShort = omega arith
-positive (NoOrder cases) = omega arith
-positive NotAnOrder = omega arith
-positive SheetEnds = omega arith
-positive WrongKind = omega arith
-positive BadLength = omega arith
-positive NotRising = omega arith
-positive BytesAfter = omega arith
 
 -- so a refusal is the answer, whatever were looked at then,
 pub then_refused : (refusal : Refusal) (later : ℕ) → then (number_of refusal) later ≡ number_of refusal

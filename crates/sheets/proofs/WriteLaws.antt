@@ -21,7 +21,7 @@ use Rattle.rules.specs.Write.{SheetWritten, write_checks}
 use Rattle.rules.proofs.Sheet.{record_of-length, outlet_records≤, sheet_of-length}
 use Rattle.refusals.specs.declared.Refusal.{Refusal}
 use Rattle.refusals.specs.Numbers.{number_of}
-use Rattle.sheets.proofs.ReadLaws.{positive}
+use Rattle.refusals.proofs.Refuses.{positive}
 use Rattle.rules.proofs.Checks.{first_more, first_rest}
 use Rattle.sheets.specs.Writing.{in_front}
 use Rattle.sheets.proofs.BinLaws.{lowest_first, no_bins, as_many_bins, at_most64}

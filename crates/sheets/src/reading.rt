@@ -1,5 +1,5 @@
 // Reading a sheet. The outlets are read into a row of the reader's own first, so that a refused sheet writes nothing
-// into the lent room, wherever the bad record stands.
+// into the lent room, wherever the bad record stands. A place in a sheet becomes one in a slice by `as`: there is no From.
 ghost use Rattle.std.specs.Prelude.{◌≡◌, ◌≤◌, length, take, IfOk};
 ghost use Rattle.rules.specs.Crossing.{set_of};
 ghost use Rattle.rules.specs.Next.{body_at, after};
@@ -96,10 +96,10 @@ fn outlet_records(sheet: &[u8], from: u64, bins: BinCount, row: &mut [u64]) -> R
 fn head_numbers(room: u64, job: Job) -> Result<(), Refusal>
     ensures { number_told result ≡ head_numbers room job.bins job.outlets job.budget }
 {
-    if 64 < job.bins {
+    if jobs::MOST_BINS < job.bins {
         return Err(Refusal::TooManyBins);
     }
-    if 32 < job.outlets {
+    if (jobs::MOST_OUTLETS as u64) < job.outlets {
         return Err(Refusal::TooManyOutlets);
     }
     if jobs::bad_budget(job.budget) {

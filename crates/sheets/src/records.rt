@@ -1,4 +1,5 @@
-// The record at a place of a sheet, and the next record for a caller who keeps the place.
+// The record at a place of a sheet, and the next record for a caller who keeps the place. Sheet and place come as two, since the walk that keeps both is
+// a thin struct over these functions.
 ghost use Rattle.std.specs.Prelude.{◌≡◌, ◌+◌, ◌<◌, length, IfOk};
 ghost use Rattle.rules.specs.Next.{two_at, bad_length, record_checks, kind_due, NextRecord};
 ghost use Rattle.refusals.specs.Numbers.{number_told};
@@ -15,7 +16,7 @@ pub enum Kind {
 }
 
 impl Kind {
-    // Its number in a sheet.
+    // Its number in a sheet. (A method, since `u64::from` would not say which number.)
     pub fn number(self) -> u64
         ensures { result ≡ kind_number self }
     {

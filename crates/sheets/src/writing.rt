@@ -1,5 +1,5 @@
 // Writing a sheet: the checks and the length first, so that a refused job writes nothing, and then the bytes, record by record,
-// each in front of the room that is left.
+// each in front of the room that is left. (A struct that held the room would have to say in each contract that it still holds the same one.)
 ghost use Rattle.std.specs.Prelude.{◌≡◌, ◌+◌, ◌<◌, ◌≤◌, length};
 ghost use Rattle.rules.specs.Sheet.{two, record_of, head_of, bins_of, outlet_records};
 ghost use Rattle.rules.specs.Write.{SheetWritten};
@@ -10,7 +10,8 @@ use crate::records::Kind;
 use hoses::Ones;
 use refusals::Refusal;
 
-// The length of the sheet of so many outlets: seven bytes for the head, four and its bins for each outlet.
+// The length of the sheet of so many outlets: seven bytes for the head, four and its bins for each outlet. (How many there may be is asked by a clause: a
+// struct for the slice would be made for this call.)
 #[tactic(auto, using(crate::proofs::WriteLaws::lengths), unfolding(rules::specs::Sheet::outlet_records))]
 fn sheet_length(outlets: &[u64]) -> u64
     requires { length outlets.now ≤ 32 }

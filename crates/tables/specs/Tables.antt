@@ -1,4 +1,4 @@
--- The tables that a search makes once: what each pair of outlets costs, 32 to a row, and two masks an outlet.
+-- The tables that a search makes once: what each pair of outlets costs, 32 to a row, and a mask an outlet.
 use Rattle.std.specs.Prelude.{Bool, not, ◌&&◌, List, ◌≡◌, ℕ, ◌+◌, ◌*◌, ◌^◌, ◌<◌, ◌≤◌, eqb, ltb, length, get_or}
 use Rattle.rules.specs.Crossing.{Cost, bit}
 use Rattle.rules.specs.Rail.{cost}
@@ -33,9 +33,8 @@ Passed m n t = (v : ℕ) → eqb (bit m v) 1 ≡ (ltb v n && t v)
 abbrev pub differ : Cost → ℕ → ℕ → Bool
 differ c u v = ltb u v && not (eqb (c u v) (c v u))
 
--- the masks of n outlets: row 2u has the outlets v above u whose two cross values with u differ, row 2u + 1 all outlets v above u
+-- the masks of n outlets: that of u has the outlets v above u whose two cross values with u differ
 pub record Masks (n : ℕ) (c : Cost) (masks : List ℕ) : Type 0 where
-  pub size : length masks ≡ 64
+  pub size : length masks ≡ 32
   pub fit : (i : ℕ) → get_or masks i 0 < 2 ^ 32
-  pub differing : (u v : ℕ) → u < n → eqb (bit (get_or masks (2 * u) 0) v) 1 ≡ (ltb v n && (ltb u v && not (eqb (c u v) (c v u))))
-  pub above : (u v : ℕ) → u < n → eqb (bit (get_or masks (2 * u + 1) 0) v) 1 ≡ (ltb v n && ltb u v)
+  pub differing : (u v : ℕ) → u < n → eqb (bit (get_or masks u 0) v) 1 ≡ (ltb v n && (ltb u v && not (eqb (c u v) (c v u))))

@@ -1,4 +1,4 @@
-// The tables that a search makes once: the cost of each pair of outlets, 32 to a row, and two masks an outlet.
+// The tables that a search makes once: the cost of each pair of outlets, 32 to a row, and a mask an outlet.
 #![tactic(auto)]
 
 ghost use Rattle.std.specs.Prelude.{◌≡◌, ℕ, ◌+◌, ◌*◌, ◌<◌, ◌≤◌, ltb, length, get_or, replicate, slice_set};
@@ -21,10 +21,12 @@ fn own(a: u64) -> u64
     (at_a * at_a - at_a) / 2
 }
 
-// What it costs, of every pair of a rail of at most 32 outlets, that the one stands left of the other.
+// What it costs, of every pair of a rail of at most 32 outlets, that the one stands left of the other. Fixed memory: room for 32 outlets, and how many
+// there are. (That a rail has no more is asked by clauses: a struct for the slice would be made once, in a search, and taken apart in each function.)
 #[derive(Drop)]
 pub struct CostTable {
-    // first, so that a cost lies where its number says, without a step past the count: the search looks up a dozen a case
+    // first, so that a cost lies where its number says, without a step past the count: the search looks up a dozen a case; and one row, since only `cost`
+    // and `set` reckon a place in it
     pub pairs: [u16; 1024],
     pub outlets: usize,
     pub ghost few: { outlets ≤ 32 },
@@ -62,6 +64,7 @@ impl CostTable {
         u64::from(self.pairs[32 * u + v])
     }
 
+    // Notes a cost. (It is cut to 16 bits by `as`, which is proved to lose nothing: try_from would bring a branch that never runs.)
     fn set(&mut self, u: usize, v: usize, cost: u64)
         requires { (u < 32) × (v < 32) × (cost ≤ 2016) }
         ensures written { self.new.pairs ≡ slice_set self.old.pairs (32 * u + v) cost }
@@ -86,14 +89,13 @@ impl CostTable {
         }
     }
 
-    // Both masks of each outlet, into rows of zeros.
-    pub fn masks(&self, rows: &mut [u32; 64])
-        requires { rows.old ≡ replicate 64 0 }
+    // The mask of each outlet, into rows of zeros: they are filled where they stand, as the costs are.
+    pub fn masks(&self, rows: &mut [u32; 32])
+        requires { rows.old ≡ replicate 32 0 }
         ensures { Masks self.now.outlets (cost_in self.now.pairs) rows.new }
     {
         for u in 0..self.outlets {
-            rows[2 * u] = self.differing(u);
-            rows[2 * u + 1] = above(self.outlets, u);
+            rows[u] = self.differing(u);
         }
     }
 
@@ -122,11 +124,11 @@ fn above(n: usize, u: usize) -> u32
     (all - others) as u32
 }
 
-// The costs of a rail, and both masks of each of its outlets.
+// The costs of a rail, and of each of its outlets the mask of those that differ.
 #[derive(Clone, Copy)]
 pub struct Tables<'a> {
     pub costs: &'a CostTable,
-    pub masks: &'a [u32; 64],
+    pub masks: &'a [u32; 32],
     pub ghost held: { Masks costs.now.outlets (cost_in costs.now.pairs) masks.now },
 }
 
@@ -134,16 +136,16 @@ impl Tables<'_> {
     // The outlets above u whose two cross values with u differ.
     pub fn differing(&self, u: usize) -> u32
         requires { u < 32 }
-        ensures { result ≡ get_or self.now.masks.now (2 * u) 0 }
+        ensures { result ≡ get_or self.now.masks.now u 0 }
     {
-        self.masks[2 * u]
+        self.masks[u]
     }
 
     // The outlets above u.
     pub fn above(&self, u: usize) -> u32
-        requires { u < 32 }
-        ensures { result ≡ get_or self.now.masks.now (2 * u + 1) 0 }
+        requires { u < self.now.costs.now.outlets }
+        ensures { Passed result self.now.costs.now.outlets (λ v. ltb u v) }
     {
-        self.masks[2 * u + 1]
+        above(self.costs.outlets, u)
     }
 }

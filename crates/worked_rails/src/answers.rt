@@ -1,4 +1,4 @@
-// How the answers of the library are shown: as the numbers of the list, 0 for what is done. Only here are they read.
+// How the answers of the library are shown: as the numbers of the list, 0 for what is done. The program reads an answer only here.
 use refusals::Refusal;
 use std::fmt;
 
@@ -16,17 +16,20 @@ impl fmt::Display for Searched {
     }
 }
 
-// What a count answers.
+// What is answered with one number: a count's crossings, the length of a sheet that is written.
 #[derive(Clone, Copy)]
-pub struct Counted(pub Result<u64, Refusal>);
+pub struct Told<'a> {
+    pub what: &'a str,
+    pub answer: Result<u64, Refusal>,
+}
 
-impl fmt::Display for Counted {
+impl fmt::Display for Told<'_> {
     fn fmt<W: fmt::Write>(&self, f: &mut fmt::Formatter<W>) -> fmt::Result {
-        let (number, crossings) = match self.0 {
-            Ok(crossings) => (0, crossings),
+        let (number, told) = match self.answer {
+            Ok(told) => (0, told),
             Err(refusal) => (refusal.number(), 0),
         };
-        write!(f, "number {number}, crossings {crossings}")
+        write!(f, "number {number}, {} {told}", self.what)
     }
 }
 
@@ -44,20 +47,6 @@ impl fmt::Display for Read {
             f,
             "number {number}, bins {bins}, outlets {outlets}, budget {budget}"
         )
-    }
-}
-
-// What a sheet that is written answers.
-#[derive(Clone, Copy)]
-pub struct Written(pub Result<u64, Refusal>);
-
-impl fmt::Display for Written {
-    fn fmt<W: fmt::Write>(&self, f: &mut fmt::Formatter<W>) -> fmt::Result {
-        let (number, length) = match self.0 {
-            Ok(length) => (0, length),
-            Err(refusal) => (refusal.number(), 0),
-        };
-        write!(f, "number {number}, length {length}")
     }
 }
 

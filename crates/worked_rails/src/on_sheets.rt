@@ -1,7 +1,7 @@
 // Job sheets: the sheet of three as document 01 has it, read, written and walked; then cut, changed at a byte, and as long as sheets get.
 ghost use Rattle.std.specs.Prelude.{◌<◌};
 
-use crate::answers::{Next, Read, Written};
+use crate::answers::{Next, Read, Told};
 use crate::asked::{FULL, LAST, Rail, THREE};
 use crate::print::{BEFORE, Bytes, Outlets, SET_BEFORE};
 use crate::typed;
@@ -25,8 +25,15 @@ fn read(
     println!(rt; "{name} read, a room of {size}: {answer}, room{room}")
 }
 
+fn written(rail: Rail, budget: u64, room: &mut [u8]) -> Told<'static> {
+    Told {
+        what: "length",
+        answer: sheets::write(rail.bins, rail.outlets, budget, room),
+    }
+}
+
 fn write(rt: &impl Print, rail: Rail, budget: u64, room: &mut [u8]) -> io::Result<()> {
-    let answer = Written(sheets::write(rail.bins, rail.outlets, budget, room));
+    let answer = written(rail, budget, room);
     let size = room.len();
     let room = Bytes(room);
     println!(rt; "{rail}, budget {budget}, a room of {size}: written, {answer}, room{room}")
@@ -143,8 +150,8 @@ pub fn long_records(rt: &impl Print) -> io::Result<()> {
 // The longest sheet has 7 + 32 x 68 = 2,183 bytes. Its rooms are too long for a line; what was read is counted.
 pub fn longest(rt: &impl Print) -> io::Result<()> {
     let mut room = [BEFORE; 2183];
-    let written = Written(sheets::write(64, &[FULL; 32], 30, &mut room));
-    println!(rt; "the longest sheet: written, {written}")?;
+    let answer = written(Rail::of("", 64, &[FULL; 32]), 30, &mut room);
+    println!(rt; "the longest sheet: written, {answer}")?;
     next(rt, "the longest sheet", &room, 2115)?;
     next(rt, "the longest sheet", &room, 2183)?;
     let mut outlets = [SET_BEFORE; 32];

@@ -1,4 +1,5 @@
 // What the lines show besides words and numbers: rows of bytes, and of outlets.
+use hoses::Ones;
 use std::fmt;
 
 // What a place of a lent room holds before a call: no order, no sheet and no outlet here has it.
@@ -13,7 +14,7 @@ struct Set(u64);
 impl fmt::Display for Set {
     fn fmt<W: fmt::Write>(&self, f: &mut fmt::Formatter<W>) -> fmt::Result {
         write!(f, "{{")?;
-        for bin in (0..64u64).filter(|bin| self.0 >> *bin & 1 == 1) {
+        for bin in Ones::of(self.0) {
             write!(f, " {bin}")?;
         }
         write!(f, " }}")

@@ -1,5 +1,5 @@
 // Pairs of outlets, and orders as someone types them: counted, or refused.
-use crate::answers::Counted;
+use crate::answers::Told;
 use crate::asked::{FULL, LAST, Rail, THREE};
 use crate::print::Bytes;
 use std::io;
@@ -31,7 +31,10 @@ pub fn pairs(rt: &impl Print) -> io::Result<()> {
 
 // An order counted.
 pub fn counted(rt: &impl Print, rail: Rail, order: &[u8]) -> io::Result<()> {
-    let answer = Counted(orders::count(rail.bins, rail.outlets, order));
+    let answer = Told {
+        what: "crossings",
+        answer: orders::count(rail.bins, rail.outlets, order),
+    };
     println!(rt; "{rail}, order{}: {answer}", Bytes(order))
 }
 

@@ -1,4 +1,4 @@
--- Outlet by outlet the rows hold both masks of those passed.
+-- Outlet by outlet the rows hold the masks of those passed.
 use Rattle.tables.specs.Tables.{cost_in}
 use Rattle.tables.proofs.OutletMasks.{Below}
 use Rattle.tables.proofs.CostTable.masks.Given as goal
