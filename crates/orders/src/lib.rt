@@ -40,7 +40,10 @@ pub fn first_bad(outlets: usize, order: &[u8]) -> Option<usize>
 pub fn not_an_order(outlets: usize, order: &[u8]) -> bool
     ensures { result ≡ not_an_order outlets order.now }
 {
-    order.len() != outlets || first_bad(outlets, order).is_some()
+    if order.len() != outlets {
+        return true;
+    }
+    first_bad(outlets, order).is_some()
 }
 
 // The checks of an order of a rail, in the order 1, 2, 4, 7.

@@ -13,7 +13,7 @@ loop-u-init c =
     (tt, tt, omega arith, omega (arith, ap (to_pay (new_pays c.args.self.now.rows c.args.costs.now.pairs c.new_beside-right.result)) all))
 
 pub right_of-requires : goal.right_of-requires
-right_of-requires c = (taken c.loop-u.invariant.2 c.in-Some.ensures.steps).outlet
+right_of-requires c = omega (arith, (taken c.loop-u.invariant.2 c.in-Some.ensures.steps).outlet, c.requires.1.first)
 
 pub row-cost-requires : goal.row-cost-requires
 row-cost-requires c = (taken c.loop-u.invariant.2 c.in-Some.ensures.steps).outlet
