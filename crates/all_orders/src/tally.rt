@@ -2,7 +2,7 @@
 use std::fmt;
 
 // A count that stays far below the largest number; nothing is proved of it.
-#[derive(Default, Drop)]
+#[derive(Clone, Copy, Default)]
 pub struct Count(u64);
 
 impl Count {
@@ -22,7 +22,7 @@ impl fmt::Display for Count {
     }
 }
 
-#[derive(Default, Drop)]
+#[derive(Clone, Copy, Default)]
 pub struct Tally {
     pub rails: Count,
     pub searches: Count,

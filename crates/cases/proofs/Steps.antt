@@ -315,6 +315,27 @@ placed_copy {rows} {copy} {next} {a} {b} {left} {right} same brings places =
 
 -- ---- both ways
 
+-- What the first way comes to: the case itself is counted, and the trial's outcome told.
+pub record First (T : Tables) (rows : List ℕ) (a b rest total : ℕ) (some : Bool) (room : List ℕ) : Type 0 where
+  pub told : ℕ
+  pub counts : total ≡ told + 1
+  pub trial : Trial T rows a b rest told some room
+
+-- It opens a case that is known for a leaf, it opens another case, or it opens none.
+module _ {T : Tables} {rows : List ℕ} {from a b rest total : ℕ} {room end : List ℕ} (k : CaseOf T rows from a b rest) where
+  module _ {cost left right : ℕ} (p : PriceWithin T.costs.now.pairs rows a b rest cost left right) where
+    pub first_leaf : {answer : Bool} → answer ≡ true → LeafIn T rows rest cost left right answer → total ≡ 2 → end ≡ room
+        → First T rows a b rest total false end
+    first_leaf told waits t e =
+        rw (t, e) (record { told = 1; counts = refl; trial = trial_leaf _ _ _ _ _ _ k p (rw told at waits) _ })
+
+    pub first_opens : {cases : ℕ} {some : Bool} → Trial T rows a b rest cases some room → total ≡ cases + 1 → end ≡ room
+        → First T rows a b rest total some end
+    first_opens way t e = rw (t, e) (record { told = _; counts = refl; trial = way })
+
+  pub first_none : PriceBeyond T.costs.now.pairs rows a b rest → total ≡ 1 → end ≡ room → First T rows a b rest total false end
+  first_none beyond t e = rw (t, e) (record { told = 0; counts = refl; trial = trial_not _ _ _ _ _ _ k beyond _ })
+
 module _ (T : Tables) (rows : List ℕ) (a b rest : ℕ) where
   abbrev way : ℕ → ℕ → ℕ → Outcome
   way m x y = trial (outlets_of T) (cost_of T) (opened (outlets_of T) (cost_of T) m) (reads rows) rest x y

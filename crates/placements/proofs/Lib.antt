@@ -4,6 +4,7 @@ pub mod Masks
 pub mod Reading
 pub mod Closing
 pub mod Leaving
+pub mod Copying
 pub mod Growing
 pub mod Paying
 pub mod Choosing

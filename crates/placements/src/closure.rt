@@ -17,7 +17,7 @@ pub(crate) enum Side {
 
 impl Side {
     // The place of the row of those on this side of u.
-    fn row(self, u: usize) -> usize
+    pub(crate) fn row(self, u: usize) -> usize
         requires { u < 32 }
         ensures { result ≡ 2 * u + side_number self }
     {

@@ -5,6 +5,7 @@ ghost use Rattle.rules.specs.Walk.{made, next_to_stand};
 ghost use Rattle.placements.specs.Rows.{reads, Rows, Within};
 
 use super::Relation;
+use super::closure::Side;
 
 impl Relation {
     // The smallest-numbered outlet, among those not yet standing, that has no outlet still to stand left of it.
@@ -15,7 +16,7 @@ impl Relation {
     {
         for o in 0..n {
             if standing >> o & 1 == 0 {
-                if self.left_of(o) & !standing == 0 {
+                if self.rows[Side::Left.row(o)] & !standing == 0 {
                     return Some(o);
                 }
             }

@@ -1,15 +1,47 @@
--- The head of a sheet: its limits, and that the checks after it, 1, 2, 3, 5, say nothing exactly where it keeps them.
+-- The head of a sheet: what is said after it, 1, 2, 3, 5, and what is known where nothing is.
 use mathlib.Core.Path.{◌≡◌}
-use mathlib.Core.Bool.{false}
-use Prim.Native.Nat.{ℕ, ◌≤◌}
+use mathlib.Core.Bool.{true, false}
+use mathlib.Core.List.{List}
+use Prim.Native.Nat.{ℕ, ◌+◌, ◌<◌, ◌≤◌}
 use native.Mathlib.Omega.{arith}
 use lib.Dec.{ltb}
-use borrow.Author.Tests.{le-ltb, ltb-false}
+use lib.ListN.{get_or}
+use borrow.Author.Tests.{lt-ltb, le-ltb, ltb-false}
 use Rattle.rules.specs.Numbers.{first_of, too_many_bins, bad_budget, room_too_short}
-use Rattle.rules.specs.Read.{head_numbers}
+use Rattle.rules.specs.Read.{head_bins, head_outlets, head_budget, head_numbers}
 use Rattle.rules.proofs.Checks.{first-none}
 
+-- the three bytes of a body that starts at `at`
+module _ (s : List ℕ) (p at : ℕ) (e : at ≡ p + 4) where
+  pub bins_byte : get_or s at 0 ≡ head_bins s p
+  unfolding head_bins
+  bins_byte = rw e
+
+  pub outlets_byte : get_or s (at + 1) 0 ≡ head_outlets s p
+  unfolding head_outlets
+  outlets_byte = let same : at + 1 ≡ p + 5 = omega arith in rw same
+
+  pub budget_byte : get_or s (at + 2) 0 ≡ head_budget s p
+  unfolding head_budget
+  budget_byte = let same : at + 2 ≡ p + 6 = omega arith in rw same
+
 module _ (room bins outlets k : ℕ) where
+  pub many_bins : 64 < bins → head_numbers room bins outlets k ≡ 1
+  unfolding head_numbers too_many_bins first_of
+  many_bins h = rw (lt-ltb 64 bins h)
+
+  pub many_outlets : bins ≤ 64 → 32 < outlets → head_numbers room bins outlets k ≡ 2
+  unfolding head_numbers too_many_bins first_of
+  many_outlets b h = rw (le-ltb 64 bins b, lt-ltb 32 outlets h)
+
+  pub other_budget : bins ≤ 64 → outlets ≤ 32 → bad_budget k ≡ true → head_numbers room bins outlets k ≡ 3
+  unfolding head_numbers too_many_bins first_of
+  other_budget b o g = rw (le-ltb 64 bins b, le-ltb 32 outlets o, g)
+
+  pub short_room : bins ≤ 64 → outlets ≤ 32 → bad_budget k ≡ false → room < outlets → head_numbers room bins outlets k ≡ 5
+  unfolding head_numbers too_many_bins room_too_short first_of
+  short_room b o g h = rw (le-ltb 64 bins b, le-ltb 32 outlets o, g, lt-ltb room outlets h)
+
   -- a head that is taken
   pub record GoodHead : Type 0 where
     pub few_bins : bins ≤ 64

@@ -2,6 +2,7 @@
 pub mod RecordLaws
 pub mod EntryLaws
 pub mod HeadLaws
+pub mod RowLaws
 pub mod ReadLaws
 pub mod BinLaws
 pub mod WriteLaws

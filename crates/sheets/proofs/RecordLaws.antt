@@ -1,4 +1,4 @@
--- The record of a kind at a place: what is known where its checks say 0; and where the bytes end.
+-- The record of a kind at a place: what its checks say on each way, and what is known where they say 0; and where the bytes end.
 use mathlib.Core.Path.{◌≡◌, refl, sym, ◌∙◌}
 use mathlib.Core.Bool.{Bool, true, false, not, ◌&&◌}
 use mathlib.Core.List.{List}
@@ -36,6 +36,22 @@ pub head_is_three : (n : ℕ) → bad_length 1 n ≡ false → n ≡ 3
 head_is_three n e = eqb-true n 3 (not-false (eqb n 3) (sym (head_length 1 n refl) ∙ e))
 
 module _ (kind : ℕ) (s : List ℕ) (p : ℕ) where
+  pub fewer_than_four : length s < p + 4 → record_checks kind s p ≡ 8
+  unfolding record_checks first_of
+  fewer_than_four h = rw (lt-ltb (length s) (p + 4) h)
+
+  pub other_kind : p + 4 ≤ length s → (kind_at s p ≡ kind → ⊥) → record_checks kind s p ≡ 9
+  unfolding record_checks first_of
+  other_kind h k = rw (le-ltb (length s) (p + 4) h, ne_eqb (kind_at s p) kind k)
+
+  pub wrong_length : p + 4 ≤ length s → kind_at s p ≡ kind → bad_length kind (length_at s p) ≡ true → record_checks kind s p ≡ 10
+  unfolding record_checks first_of
+  wrong_length h k l = rw (le-ltb (length s) (p + 4) h, eq-eqb (kind_at s p) kind k, l)
+
+  pub body_past_the_end : p + 4 ≤ length s → kind_at s p ≡ kind → bad_length kind (length_at s p) ≡ false → length s < after s p → record_checks kind s p ≡ 8
+  unfolding record_checks first_of
+  body_past_the_end h k l e = rw (le-ltb (length s) (p + 4) h, eq-eqb (kind_at s p) kind k, l, lt-ltb (length s) (after s p) e)
+
   -- a whole record
   pub record Whole : Type 0 where
     pub four : p + 4 ≤ length s
@@ -73,6 +89,10 @@ module _ (s : List ℕ) (p : ℕ) where
   pub at_the_end : 0 < length s → p ≡ length s → at_end s p ≡ true
   unfolding at_end
   at_the_end h e = rw (lt-ltb 0 (length s) h, eq-eqb p (length s) e, at_end)
+
+  pub empty_sheet : length s ≤ 0 → at_end s p ≡ false
+  unfolding at_end
+  empty_sheet h = rw (le-ltb 0 (length s) h, at_end)
 
   pub not_the_end : (p ≡ length s → ⊥) → at_end s p ≡ false
   unfolding at_end

@@ -74,6 +74,21 @@ module _ {before : List ℕ} {whole : ℕ} {room : List ℕ} {left i : ℕ} (B :
   pub all_stored : left ≡ 0 → length (bins_of whole) ≤ length before → room ≡ in_front (bins_of whole) before
   all_stored z fits = sym (ap (sets room i) (ap bins_of z ∙ no_bins)) ∙ B.stored ∙ sets_in_front (bins_of whole) before fits
 
+-- What holds where i of the outlets' records stand from `from` on, and the next goes to `at`.
+pub record Stored (before : List ℕ) (from : ℕ) (outlets room : List ℕ) (at i : ℕ) : Type 0 where
+  pub long : length room ≡ length before
+  pub up_to : i ≤ length outlets
+  pub ends : at + length (outlet_records (drop i outlets)) ≡ from + length (outlet_records outlets)
+  pub stored : sets room at (outlet_records (drop i outlets)) ≡ sets before from (outlet_records outlets)
+
+pub no_record_left : (before : List ℕ) (from : ℕ) (outlets : List ℕ) → Stored before from outlets before from 0
+no_record_left before from outlets = record { long = refl; up_to = omega arith; ends = refl; stored = refl }
+
+-- where none is left, nothing is
+pub no_outlet_ahead : (outlets : List ℕ) (i : ℕ) → length outlets ≤ i → outlet_records (drop i outlets) ≡ []
+unfolding outlet_records
+no_outlet_ahead outlets i h = ap outlet_records (drop_of_length-le outlets h)
+
 -- the records of some outlets and of those after them
 records_append : (xs ys : List ℕ) → outlet_records (xs ++ ys) ≡ outlet_records xs ++ outlet_records ys
 unfolding outlet_records

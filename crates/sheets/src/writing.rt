@@ -30,7 +30,9 @@ fn put_two(room: &mut [u8], n: u64)
     requires { (n < 65536) × (2 ≤ length room.old) }
     ensures { room.new ≡ in_front (two n) room.old }
 {
-    room[..2].copy_from_slice(&(n as u16).to_le_bytes());
+    let [low, high] = (n as u16).to_le_bytes();
+    room[0] = low;
+    room[1] = high;
 }
 
 // The bins of a set, the lowest first, one byte each; how many. (Places zipped with bins would leave a proof nothing of the room after them.)

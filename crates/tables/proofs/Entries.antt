@@ -3,6 +3,7 @@ use mathlib.Core.Path.{◌≡◌, refl, ◌∙◌, subst⁻¹}
 use mathlib.Core.List.{List, [], ◌∷◌}
 use Prim.Native.Nat.{ℕ, zero, suc, ◌+◌, ◌*◌, ◌≤◌, zero-le, ◌<◌}
 use native.Mathlib.Omega.{arith}
+use native.Mathlib.Decide.{dec_lt}
 use borrow.Author.Count.{below_more}
 use lib.ListN.{length, get_or, set, replicate, length-set}
 use lib.Seq.{get_or-set_same, get_or-set_other}
@@ -81,3 +82,25 @@ module _ (rail : List ℕ) (u : ℕ) (hu : u < 32) where
             (written (set t (32 * u + k) x) k u y one.size (omega arith) hu ∙ ey);
         kept = λ v w l m. still v w (omega arith) (λ p q. absurd (omega arith)) (λ p q. absurd (omega arith)) ∙ b.kept v w l m;
       }
+
+-- and where the table held the costs of the outlets before u, it now holds those up to u
+pub beside_all : (rail before after : List ℕ) (u : ℕ)
+    → ((v w : ℕ) → v < u → w < u → cost_in before v w ≡ cost rail v w) → Beside rail before u u after
+    → (v w : ℕ) → v < u + 1 → w < u + 1 → cost_in after v w ≡ cost rail v w
+beside_all rail before after u h b v w hv hw =
+    elim (dec_lt v u) [
+      | yes lv ↦
+          elim (dec_lt w u) [
+            | yes lw ↦ b.kept v w lv lw ∙ h v w lv lw
+            | no nw ↦ same w u (omega arith) (λ (k : ℕ). cost_in after v k ≡ cost rail v k) (b.right v lv)
+          ]
+      | no nv ↦
+          same v u (omega arith) (λ (k : ℕ). cost_in after k w ≡ cost rail k w)
+          (elim (dec_lt w u) [
+            | yes lw ↦ b.left w lw
+            | no nw ↦ same w u (omega arith) (λ (k : ℕ). cost_in after u k ≡ cost rail u k) b.own
+          ])
+    ]
+  where
+    same : (x y : ℕ) → x ≡ y → (P : ℕ → Type 0) → P y → P x
+    same x y e P p = subst⁻¹ P e p

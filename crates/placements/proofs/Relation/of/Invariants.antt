@@ -1,6 +1,7 @@
 -- The first i entries of both halves are as in the rows.
-use Rattle.std.proofs.Common.{◌≡◌, ℕ, ◌%◌, ◌<◌, get_or, length}
+use Rattle.std.proofs.Common.{◌≡◌, length}
+use Rattle.placements.proofs.Copying.{CopiedTo}
 use Rattle.placements.proofs.Relation.of.Given as goal
 
 abbrev pub invariant-loop-i : goal.invariant-loop-i
-invariant-loop-i l = (length l.copy ≡ 64) × ((j : ℕ) → j < 64 → j % 32 < l.i → get_or l.copy j 0 ≡ get_or l.rows j 0)
+invariant-loop-i l = (length l.copy ≡ 64) × CopiedTo l.rows l.i l.copy
