@@ -4,19 +4,19 @@ use mathlib.Core.Bool.{Bool, true, false, not, ◌&&◌, false≢true}
 use mathlib.Core.List.{List, [], ◌∷◌, ◌++◌, append_assoc, append-nil}
 use Prim.Native.Nat.{ℕ, suc, ◌+◌, ◌-◌, ◌^◌, ◌≤◌, ◌<◌}
 use native.Mathlib.Omega.{arith}
-use native.Mathlib.Nat.{zero-add}
+use native.Mathlib.Nat.{le_trans, zero-add}
 use native.Mathlib.Numerals.{add-one}
 use lib.Dec.{ltb, eqb}
-use lib.ListN.{length, get_or, take, drop, set, length-append, length-drop, drop_of_length-le, take-append-drop}
-use lib.Seq.{sets, sets-eq, take-suc, take_at, drop_at, drop-drop}
+use lib.ListN.{length, get_or, take, drop, set, length-append, length-drop, length-set, drop_of_length-le, take-append-drop}
+use lib.Seq.{sets, sets-eq, length-sets, take-suc, take_at, drop_at, drop-cons, drop-drop}
 use borrow.Rule.Slice.PartMut.{put_mid}
-use Rattle.std.proofs.Common.{Some, take_all}
-use Rattle.hoses.specs.Ones.{LowestFirst}
-use lib.Bits.{and_le_r}
+use Rattle.std.proofs.Common.{take_all}
+use lib.Bits.{bit_and, and_le_l}
+use lib.Count.{count_trailing_zeros}
 use borrow.Author.Tests.{lt-ltb, le-ltb, ltb-false, eqb-true}
 use Rattle.rules.specs.Crossing.{profile, hoses}
 use Rattle.rules.specs.Numbers.{first_of, too_many_bins, too_many_outlets, bad_budget, stray_hoses, room_too_short, job_checks}
-use Rattle.rules.specs.Sheet.{record_of, head_of, bins_of, outlet_records, sheet_of}
+use Rattle.rules.specs.Sheet.{two, record_of, head_of, bins_of, outlet_records, sheet_of}
 use Rattle.rules.specs.Write.{SheetWritten, write_checks}
 use Rattle.rules.proofs.Sheet.{record_of-length, outlet_records≤, sheet_of-length}
 use Rattle.refusals.specs.declared.Refusal.{Refusal}
@@ -47,32 +47,44 @@ put_behind front bytes room now written a k en ea ek fits ew =
     let none : drop k (drop a now) ≡ [] = rw rest (drop_of_length-le _ left) in
     rw (first, none, ew, all, drop-drop (length bytes) (length front) room, append-nil, length-append front bytes) (sym (append_assoc front bytes _))
 
--- What holds where some bins of a set stand in front of a room, those of `left` are still to come, and the next goes to i.
-pub record Bins (before : List ℕ) (whole : ℕ) (room : List ℕ) (left i : ℕ) : Type 0 where
-  pub within : i + left ≤ whole
-  pub ends : i + length (bins_of left) ≡ length (bins_of whole)
-  pub stored : sets room i (bins_of left) ≡ sets before 0 (bins_of whole)
+-- What holds where some bins of a set stand from `at` on, those of `left` are still to come, and the next goes to i.
+pub record Bins (before : List ℕ) (at whole : ℕ) (room : List ℕ) (left i : ℕ) : Type 0 where
+  pub long : length room ≡ length before
+  pub within : left ≤ whole
+  pub ends : i + length (bins_of left) ≡ at + length (bins_of whole)
+  pub stored : sets room i (bins_of left) ≡ sets before at (bins_of whole)
 
-pub none_stored : (room : List ℕ) (whole : ℕ) → Bins room whole room whole 0
-none_stored room whole = record { within = omega arith; ends = omega arith; stored = refl }
+pub none_stored : (before : List ℕ) (at whole : ℕ) → Bins before at whole before whole at
+none_stored before at whole = record { long = refl; within = omega arith; ends = refl; stored = refl }
 
-module _ {before : List ℕ} {whole : ℕ} {room : List ℕ} {left i : ℕ} (B : Bins before whole room left i) where
-  -- there is a place for the next one,
-  pub bin_ahead : 0 < left → whole < 2 ^ 64 → i < length (bins_of whole)
-  bin_ahead some h = omega (arith, ap length (lowest_first left some (omega (arith, B.within))), B.ends)
+module _ (before : List ℕ) (at whole : ℕ) (room : List ℕ) (left i : ℕ) (B : Bins before at whole room left i) where
+  pub bin_ahead : (left ≡ 0 → ⊥) → whole < 2 ^ 64 → i < at + length (bins_of whole)
+  bin_ahead n h = omega (arith, ap length (lowest_first left (omega arith) (omega (arith, B.within))), B.ends)
 
-  -- and with it one more stands
-  pub one_stored : {bin later : ℕ} → LowestFirst left (Some bin) later → whole < 2 ^ 64 → Bins before whole (set room i bin) later (i + 1)
-  one_stored {bin} {later} (some, lowest, gone) h =
-      let e : bins_of left ≡ bin ∷ bins_of later = rw (lowest, gone) (lowest_first left some (omega (arith, B.within))) in
+  pub one_stored : (left ≡ 0 → ⊥) → whole < 2 ^ 64 → Bins before at whole (set room i (count_trailing_zeros 64 left)) (bit_and left (left - 1)) (i + 1)
+  one_stored n h =
+      let e : bins_of left ≡ count_trailing_zeros 64 left ∷ bins_of (bit_and left (left - 1)) = lowest_first left (omega arith) (omega (arith, B.within)) in
       record {
-        within = omega (arith, gone, and_le_r left (left - 1), B.within);
+        long = length-set room i (count_trailing_zeros 64 left) ∙ B.long;
+        within = le_trans (and_le_l left (left - 1)) B.within;
         ends = omega (arith, ap length e, B.ends);
         stored = rw (add-one i) (sym (ap (sets room i) e) ∙ B.stored);
       }
 
-  pub all_stored : left ≡ 0 → length (bins_of whole) ≤ length before → room ≡ in_front (bins_of whole) before
-  all_stored z fits = sym (ap (sets room i) (ap bins_of z ∙ no_bins)) ∙ B.stored ∙ sets_in_front (bins_of whole) before fits
+  pub all_stored : left ≡ 0 → (i ≡ at + length (bins_of whole)) × (room ≡ sets before at (bins_of whole))
+  all_stored z =
+      let e : bins_of left ≡ [] = ap bins_of z ∙ no_bins in
+      (omega (arith, ap length e, B.ends), sym (ap (sets room i) e) ∙ B.stored)
+
+-- an outlet's record: its length, its kind, its bins
+pub record_stored : (room one other last : List ℕ) (at set n : ℕ) → n ≡ hoses (profile set) → one ≡ sets room at (two n) → other ≡ sets one (at + 2) (two 2) → last ≡ sets other (at + 4) (bins_of set) → last ≡ sets room at (record_of 2 (bins_of set))
+unfolding record_of two
+record_stored room one other last at set n e a b c =
+    let same : n ≡ length (bins_of set) = e ∙ sym (as_many_bins set) in
+    let four : at + 2 + 2 ≡ at + 4 = omega arith in
+    c
+    ∙ ap (λ (l : List ℕ). sets l (at + 4) (bins_of set)) (b ∙ ap (λ (l : List ℕ). sets l (at + 2) (two 2)) (a ∙ ap (λ (k : ℕ). sets room at (two k)) same))
+    ∙ sym (sets_append room at (two (length (bins_of set))) (two 2 ++ bins_of set) ∙ sets_append (sets room at (two (length (bins_of set)))) (at + 2) (two 2) (bins_of set) ∙ ap (λ (k : ℕ). sets (sets (sets room at (two (length (bins_of set)))) (at + 2) (two 2)) k (bins_of set)) four)
 
 -- What holds where i of the outlets' records stand from `from` on, and the next goes to `at`.
 pub record Stored (before : List ℕ) (from : ℕ) (outlets room : List ℕ) (at i : ℕ) : Type 0 where
@@ -84,10 +96,37 @@ pub record Stored (before : List ℕ) (from : ℕ) (outlets room : List ℕ) (at
 pub no_record_left : (before : List ℕ) (from : ℕ) (outlets : List ℕ) → Stored before from outlets before from 0
 no_record_left before from outlets = record { long = refl; up_to = omega arith; ends = refl; stored = refl }
 
--- where none is left, nothing is
+-- the records that are left begin with the next outlet's
+pub ahead : (outlets : List ℕ) (i : ℕ) → i < length outlets → outlet_records (drop i outlets) ≡ record_of 2 (bins_of (get_or outlets i 0)) ++ outlet_records (drop (i + 1) outlets)
+unfolding outlet_records
+ahead outlets i h = ap outlet_records (drop-cons outlets i 0 h) ∙ sym (rw (add-one i) refl)
+
+-- its length, and what is left after it
+pub ahead_length : (outlets : List ℕ) (i : ℕ) → i < length outlets → length (outlet_records (drop i outlets)) ≡ 4 + hoses (profile (get_or outlets i 0)) + length (outlet_records (drop (i + 1) outlets))
+ahead_length outlets i h =
+    omega (arith, simp length-append at (ap length (ahead outlets i h)), record_of-length 2 (bins_of (get_or outlets i 0)), as_many_bins (get_or outlets i 0))
+
 pub no_outlet_ahead : (outlets : List ℕ) (i : ℕ) → length outlets ≤ i → outlet_records (drop i outlets) ≡ []
 unfolding outlet_records
 no_outlet_ahead outlets i h = ap outlet_records (drop_of_length-le outlets h)
+
+module _ (before : List ℕ) (from : ℕ) (outlets room : List ℕ) (at i : ℕ) (S : Stored before from outlets room at i) where
+  pub record_ahead : i < length outlets → at + length (record_of 2 (bins_of (get_or outlets i 0))) ≤ from + length (outlet_records outlets)
+  record_ahead h = omega (arith, simp length-append at (ap length (ahead outlets i h)), S.ends)
+
+  pub one_record : i < length outlets → (last : List ℕ) (next : ℕ) → last ≡ sets room at (record_of 2 (bins_of (get_or outlets i 0))) → next ≡ at + length (record_of 2 (bins_of (get_or outlets i 0))) → Stored before from outlets last next (i + 1)
+  one_record h last next e n =
+      let here : List ℕ = record_of 2 (bins_of (get_or outlets i 0)) in
+      let rest : List ℕ = outlet_records (drop (i + 1) outlets) in
+      record {
+        long = ap length e ∙ length-sets room at here ∙ S.long;
+        up_to = omega arith;
+        ends = omega (arith, simp length-append at (ap length (ahead outlets i h)), S.ends);
+        stored = rw (e, n) (sym (ap (sets room at) (ahead outlets i h) ∙ sets_append room at here rest) ∙ S.stored);
+      }
+
+  pub all_records : length outlets ≤ i → room ≡ sets before from (outlet_records outlets)
+  all_records h = sym (ap (sets room at) (no_outlet_ahead outlets i h)) ∙ S.stored
 
 -- the records of some outlets and of those after them
 records_append : (xs ys : List ℕ) → outlet_records (xs ++ ys) ≡ outlet_records xs ++ outlet_records ys
@@ -157,14 +196,16 @@ module _ (bins : ℕ) (outlets : List ℕ) (k : ℕ) (before : List ℕ) where
       let no : (write_checks bins outlets k before ≡ 0 → ⊥) = λ z. omega (arith, positive refusal) in
       record { refused = λ _. rw e; done = λ z. absurd (no z); long = λ z. absurd (no z); filled = λ z. absurd (no z) }
 
-  pub write_done : job_checks bins outlets k ≡ 0 → length (sheet_of bins outlets k) ≤ length before → (n : ℕ) → n ≡ 7 + length (outlet_records outlets) → (head written : List ℕ) (m : ℕ) → head ≡ in_front (head_of bins (length outlets) k) before → m ≡ length head - 7 → written ≡ in_front (outlet_records outlets) (take m (drop 7 head)) → SheetWritten bins outlets k before (record { number = 0; length = n; room = put_mid 7 m head written })
+  pub write_done : job_checks bins outlets k ≡ 0 → length (sheet_of bins outlets k) ≤ length before → (n : ℕ) → n ≡ 7 + length (outlet_records outlets) → (head last : List ℕ) → head ≡ sets before 0 (head_of bins (length outlets) k) → last ≡ sets head 7 (outlet_records outlets) → SheetWritten bins outlets k before (record { number = 0; length = n; room = last })
   unfolding sheet_of
-  write_done e h n en head written m eh em ew =
-      let seven : 7 ≡ length (head_of bins (length outlets) k) = head_long bins (length outlets) k in
-      let long : length (sheet_of bins outlets k) ≡ 7 + length (outlet_records outlets) = sheet_of-length bins outlets k in
+  write_done e h n en head last eh el =
+      let front : List ℕ = head_of bins (length outlets) k in
+      let sheet : List ℕ = sheet_of bins outlets k in
+      let seven : 0 + length front ≡ 7 = omega (arith, head_long bins (length outlets) k) in
+      let stored : last ≡ sets before 0 sheet = el ∙ ap (λ (l : List ℕ). sets l 7 (outlet_records outlets)) eh ∙ sym (sets_append before 0 front (outlet_records outlets) ∙ ap (λ (i : ℕ). sets (sets before 0 front) i (outlet_records outlets)) seven) in
       record {
         refused = λ no. absurd (no (passes_to_write e h));
         done = λ _. refl;
-        long = λ _. en ∙ sym long;
-        filled = λ _. put_behind (head_of bins (length outlets) k) (outlet_records outlets) before head written 7 m eh seven em (omega (arith, long)) ew;
+        long = λ _. en ∙ sym (sheet_of-length bins outlets k);
+        filled = λ _. stored ∙ sets_in_front sheet before h;
       }

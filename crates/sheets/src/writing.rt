@@ -1,13 +1,12 @@
-// Writing a sheet: the checks and the length first, so that a refused job writes nothing, and then the bytes, record by record,
-// each in front of the room that is left. (A struct that held the room would have to say in each contract that it still holds the same one.)
+// Writing a sheet: the checks and the length first, so that a refused job writes nothing, and then the bytes, record by record.
+// Each function that puts bytes is told the place, and answers where it stopped; its loops are counted by hand. In front of the room that is left, and
+// along an iterator, outlets with two to eight hoses took 1.5 to 2.6 times as long (docs/DESIGN-PASS.md has what was tried).
 ghost use Rattle.std.specs.Prelude.{◌≡◌, ◌+◌, ◌<◌, ◌≤◌, length};
+ghost use Rattle.std.proofs.lemmas.List.Edits.{sets};
 ghost use Rattle.rules.specs.Sheet.{two, record_of, head_of, bins_of, outlet_records};
 ghost use Rattle.rules.specs.Write.{SheetWritten};
 ghost use Rattle.sheets.specs.Told.{write_told};
-ghost use Rattle.sheets.specs.Writing.{in_front};
 
-use crate::records::Kind;
-use hoses::Ones;
 use refusals::Refusal;
 
 // The length of the sheet of so many outlets: seven bytes for the head, four and its bins for each outlet. (How many there may be is asked by a clause: a
@@ -25,61 +24,61 @@ fn sheet_length(outlets: &[u64]) -> u64
 }
 
 // Two bytes, little-endian.
-#[tactic(auto, unfolding(rules::specs::Sheet::two))]
-fn put_two(room: &mut [u8], n: u64)
-    requires { (n < 65536) × (2 ≤ length room.old) }
-    ensures { room.new ≡ in_front (two n) room.old }
+fn put_two(room: &mut [u8], at: usize, n: u64)
+    requires { (n < 65536) × (at + 2 ≤ length room.old) }
+    ensures { room.new ≡ sets room.old at (two n) }
 {
-    let [low, high] = (n as u16).to_le_bytes();
-    room[0] = low;
-    room[1] = high;
+    room[at] = (n % 256) as u8;
+    room[at + 1] = (n / 256) as u8;
 }
 
-// The bins of a set, the lowest first, one byte each; how many. (Places zipped with bins would leave a proof nothing of the room after them.)
-#[tactic(auto, using(crate::proofs::WriteLaws::lengths))]
-fn put_bins(room: &mut [u8], set: u64) -> usize
-    requires { length (bins_of set) ≤ length room.old }
-    ensures value { result ≡ length (bins_of set) }
-    ensures room_after { room.new ≡ in_front (bins_of set) room.old }
+// The bins of a set, the lowest first, one byte each; where they end.
+fn put_bins(room: &mut [u8], at: usize, set: u64) -> usize
+    requires { at + length (bins_of set) ≤ length room.old }
+    ensures value { result ≡ at + length (bins_of set) }
+    ensures room_after { room.new ≡ sets room.old at (bins_of set) }
 {
-    for (i, bin) in Ones::of(set).enumerate() {
-        room[i] = bin as u8;
+    let mut left = set;
+    let mut i = at;
+    while left != 0 {
+        room[i] = u64::trailing_zeros(left) as u8;
+        left &= left - 1;
+        i += 1;
     }
-    hoses::at_outlet(set) as usize
+    i
 }
 
-// An outlet's record; how long it is.
-#[tactic(auto, using(crate::proofs::WriteLaws::lengths))]
-fn put_record(room: &mut [u8], set: u64) -> usize
-    requires { length (record_of 2 (bins_of set)) ≤ length room.old }
-    ensures value { result ≡ length (record_of 2 (bins_of set)) }
-    ensures room_after { room.new ≡ in_front (record_of 2 (bins_of set)) room.old }
+// An outlet's record; where it ends.
+fn put_record(room: &mut [u8], at: usize, set: u64) -> usize
+    requires { at + length (record_of 2 (bins_of set)) ≤ length room.old }
+    ensures value { result ≡ at + length (record_of 2 (bins_of set)) }
+    ensures room_after { room.new ≡ sets room.old at (record_of 2 (bins_of set)) }
 {
-    put_two(room, hoses::at_outlet(set));
-    put_two(&mut room[2..], Kind::Outlet.number());
-    4 + put_bins(&mut room[4..], set)
+    put_two(room, at, hoses::at_outlet(set));
+    put_two(room, at + 2, 2);
+    put_bins(room, at + 4, set)
 }
 
 // The outlets' records, one after the other.
-#[tactic(auto, using(crate::proofs::WriteLaws::lengths), unfolding(rules::specs::Sheet::outlet_records))]
-fn put_records(room: &mut [u8], outlets: &[u64])
-    requires { length (outlet_records outlets.now) ≤ length room.old }
-    ensures { room.new ≡ in_front (outlet_records outlets.now) room.old }
+fn put_records(room: &mut [u8], from: usize, outlets: &[u64])
+    requires { from + length (outlet_records outlets.now) ≤ length room.old }
+    ensures { room.new ≡ sets room.old from (outlet_records outlets.now) }
 {
-    let mut at = 0;
-    for set in outlets {
-        at += put_record(&mut room[at..], *set);
+    let mut at = from;
+    let mut i = 0;
+    while i < outlets.len() {
+        at = put_record(room, at, outlets[i]);
+        i += 1;
     }
 }
 
 // The head: bins, outlets, budget, one byte each.
-#[tactic(auto, unfolding(rules::specs::Sheet::two, rules::specs::Sheet::record_of, rules::specs::Sheet::head_of))]
 fn put_head(room: &mut [u8], bins: u64, outlets: u64, budget: u64)
     requires { (7 ≤ length room.old) × (bins < 256) × (outlets < 256) × (budget < 256) }
-    ensures { room.new ≡ in_front (head_of bins outlets budget) room.old }
+    ensures { room.new ≡ sets room.old 0 (head_of bins outlets budget) }
 {
-    put_two(room, 3);
-    put_two(&mut room[2..], Kind::Head.number());
+    put_two(room, 0, 3);
+    put_two(room, 2, 1);
     room[4] = bins as u8;
     room[5] = outlets as u8;
     room[6] = budget as u8;
@@ -95,6 +94,6 @@ pub fn write(bins: u64, outlets: &[u64], budget: u64, room: &mut [u8]) -> Result
         return Err(Refusal::RoomTooShort);
     }
     put_head(room, bins, outlets.len() as u64, budget);
-    put_records(&mut room[7..], outlets);
+    put_records(room, 7, outlets);
     Ok(length)
 }

@@ -1,4 +1,4 @@
-use Rattle.std.proofs.Common.{refl, sym, rules, arith}
+use Rattle.std.proofs.Common.{sym, rules, arith}
 use Rattle.refusals.specs.declared.Refusal.TheVariants.{RoomTooShort}
 use Rattle.rules.proofs.Checks.{job_fits}
 use Rattle.rules.proofs.Sheet.{sheet_of-length}
@@ -26,4 +26,4 @@ pub returns : goal.returns
 returns c =
     let a = c.args in
     let passes = sym c.in_ok-check.ensures.number in
-    write_done a.bins a.outlets.now a.budget a.room.now passes (omega (arith, sheet_of-length a.bins a.outlets.now a.budget)) _ c.sheet_length-length.ensures _ _ _ c.put_head.ensures refl c.put_records.ensures
+    write_done a.bins a.outlets.now a.budget a.room.now passes (omega (arith, sheet_of-length a.bins a.outlets.now a.budget)) _ c.sheet_length-length.ensures _ _ c.put_head.ensures c.put_records.ensures
