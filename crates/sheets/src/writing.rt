@@ -1,6 +1,6 @@
 // Writing a sheet: the checks and the length first, so that a refused job writes nothing, and then the bytes, record by record.
 // Each function that puts bytes is told the place, and answers where it stopped; its loops are counted by hand. In front of the room that is left, and
-// along an iterator, outlets with two to eight hoses took 1.5 to 2.6 times as long (docs/DESIGN-PASS.md has what was tried).
+// along an iterator, sheets of outlets with few hoses took up to 2.6 times as long (docs/DESIGN-PASS.md has what was tried).
 ghost use Rattle.std.specs.Prelude.{◌≡◌, ◌+◌, ◌<◌, ◌≤◌, length};
 ghost use Rattle.std.proofs.lemmas.List.Edits.{sets};
 ghost use Rattle.rules.specs.Sheet.{two, record_of, head_of, bins_of, outlet_records};
